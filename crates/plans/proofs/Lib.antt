@@ -1,0 +1,11 @@
+pub mod Finds
+pub mod Lasts
+pub mod Words
+pub mod Bodies
+pub mod Distinct
+pub mod Passing
+pub mod Growth
+pub mod Reading
+pub mod NoFault
+pub mod Unique
+pub mod Joins
