@@ -1,10 +1,12 @@
 // What is wrong with an input, and where.
 ghost use Rattle.limits.specs.Refusals.{faultText, layerNumber};
+ghost use Rattle.limits.specs.declared.fault.ReadError.the-variants.{NoMemory as OutOfMemory};
 ghost use Rattle.std.specs.declared.option.Option.the-variants.{Some};
 ghost use mathlib.Core.Path.{_≡_};
 use crate::refusal::Refusal;
 use crate::refusal::RefusalDebug;
 use crate::refusal::RefusalPartialEq;
+use std::alloc::AllocError;
 use std::fmt;
 
 // The layer of reading in which a fault arose.
@@ -38,5 +40,20 @@ pub impl fmt::Display for Fault as FaultDisplay {
         let layer = self.layer.number();
         let refusal = self.refusal.number();
         write!(f, "fault {} {} {}", layer, refusal, self.place)
+    }
+}
+
+// Why bytes were not read: a fault, or want of memory, which has no number.
+#[derive(Clone, Copy)]
+pub enum ReadError {
+    Fault(Fault),
+    NoMemory,
+}
+
+pub impl From<AllocError> for ReadError as ReadErrorFromAlloc {
+    ghost converts = { λ _ r. r ≡ OutOfMemory };
+
+    fn from(_e: AllocError) -> ReadError {
+        ReadError::NoMemory
     }
 }

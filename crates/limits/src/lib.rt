@@ -8,6 +8,8 @@ pub use fault::FaultDisplay;
 pub use fault::Layer;
 pub use fault::LayerDebug;
 pub use fault::LayerPartialEq;
+pub use fault::ReadError;
+pub use fault::ReadErrorFromAlloc;
 pub use ranges::CAP_UNIT;
 pub use ranges::HORIZON;
 pub use ranges::MOST_TICKS;

@@ -13,8 +13,8 @@ use Rattle.plans.specs.Plans.{actionRecord, actionsOf, bodyRecords, encoding, 
 use Rattle.plans.specs.Reads.{NotRead, serversOf}
 use Rattle.plans.specs.Records.{recordAt}
 use Rattle.plans.specs.Steps.{ReadServers}
-use Rattle.plans.specs.declared.error.ReadError.{ReadError}
-use Rattle.plans.specs.declared.error.ReadError.the-variants.{Fault as AtFault, NoMemory}
+use Rattle.limits.specs.declared.fault.ReadError.{ReadError}
+use Rattle.limits.specs.declared.fault.ReadError.the-variants.{Fault as AtFault, NoMemory}
 use Rattle.plans.specs.declared.plan.Plan.{Plan}
 use Rattle.plans.specs.declared.record.Record.{Record}
 use Rattle.plans.specs.declared.server.Action.{Action}

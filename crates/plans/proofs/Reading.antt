@@ -9,8 +9,8 @@ use Rattle.plans.specs.Faults.{FirstRecord, InOrder, check, countOf, headForm,
 use Rattle.plans.specs.Plans.{bodyRecords, encoding, headRecord, planRecords, valid, validServers}
 use Rattle.plans.specs.Records.{recordAt, recordBytes}
 use Rattle.plans.specs.Steps.{ReadServers, Taken, Took, checkAfter, entryRecord}
-use Rattle.plans.specs.declared.error.ReadError.{ReadError}
-use Rattle.plans.specs.declared.error.ReadError.the-variants.{Fault as AtFault, NoMemory}
+use Rattle.limits.specs.declared.fault.ReadError.{ReadError}
+use Rattle.limits.specs.declared.fault.ReadError.the-variants.{Fault as AtFault, NoMemory}
 use Rattle.plans.specs.declared.record.Record.{Record}
 use Rattle.plans.specs.declared.server.Server.{Server}
 use Rattle.limits.proofs.Passed.{none-refuse}

@@ -3,8 +3,8 @@ use Prim.Native.Nat.{ℕ}
 use Rattle.plans.specs.Faults.{FirstFault}
 use Rattle.plans.specs.Numbers.{numbered}
 use Rattle.plans.specs.Plans.{actionsOf, encoding}
-use Rattle.plans.specs.declared.error.ReadError.{ReadError}
-use Rattle.plans.specs.declared.error.ReadError.the-variants.{Fault as AtFault, NoMemory}
+use Rattle.limits.specs.declared.fault.ReadError.{ReadError}
+use Rattle.limits.specs.declared.fault.ReadError.the-variants.{Fault as AtFault, NoMemory}
 use Rattle.plans.specs.declared.plan.Plan.{Plan}
 use Rattle.plans.specs.declared.server.Action.{Action}
 use Rattle.plans.specs.declared.server.Server.{Server}

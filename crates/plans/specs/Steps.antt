@@ -7,8 +7,8 @@ use Rattle.plans.specs.Plans.{actionRecord, actionsOf, encoding, valid}
 use Rattle.plans.specs.Records.{recordAt}
 use Rattle.plans.specs.declared.entry.Entry.{Entry}
 use Rattle.plans.specs.declared.entry.Entry.the-variants.{NewServer, NewAction}
-use Rattle.plans.specs.declared.error.ReadError.{ReadError}
-use Rattle.plans.specs.declared.error.ReadError.the-variants.{Fault as AtFault, NoMemory}
+use Rattle.limits.specs.declared.fault.ReadError.{ReadError}
+use Rattle.limits.specs.declared.fault.ReadError.the-variants.{Fault as AtFault, NoMemory}
 use Rattle.plans.specs.declared.record.Record.{Record}
 use Rattle.plans.specs.declared.server.Action.{Action}
 use Rattle.plans.specs.declared.server.Server.{Server}

@@ -1,14 +1,12 @@
 // Plans: which servers a rig has and which actions each owes, read from bytes, exactly.
 mod entry;
-mod error;
+mod fault;
 mod listing;
 mod numbered;
 mod plan;
 mod record;
 mod server;
 
-pub use error::ReadError;
-pub use error::ReadErrorFromAlloc;
 pub use plan::Plan;
 pub use server::Action;
 pub use server::Server;

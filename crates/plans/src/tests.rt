@@ -1,8 +1,8 @@
-use crate::error::ReadError;
 use crate::plan::Plan;
 use limits::Layer;
 use limits::LayerDebug;
 use limits::LayerPartialEq;
+use limits::ReadError;
 use limits::Refusal;
 use limits::RefusalDebug;
 use limits::RefusalPartialEq;

@@ -3,8 +3,8 @@ ghost use Rattle.sheets.specs.Printed.{Printed};
 ghost use Rattle.std.specs.Of.String.{string-bytes};
 ghost use Rattle.std.specs.Vec.{made};
 use limits::FaultDisplay;
+use limits::ReadError;
 use plans::Plan;
-use plans::ReadError;
 use std::alloc::AllocError;
 use std::alloc::Global;
 

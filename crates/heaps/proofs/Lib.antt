@@ -1,0 +1,4 @@
+pub mod Moves
+pub mod Rise
+pub mod Sorting
+pub mod Firsts

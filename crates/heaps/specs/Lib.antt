@@ -1,0 +1,4 @@
+pub mod Heaps
+pub mod Held
+pub mod Answers
+pub mod Sorted
