@@ -18,10 +18,9 @@ import sys
 from random import Random
 
 from plan_cases import plan_cases
-from plans import listing_of_bytes
+from plans import Plan, write_plan
 from script_cases import script_cases
-from scripts import script_of_bytes
-from sheet import sheet_of_bytes
+from sheet import listing_of_bytes, sheet_of_bytes
 from sheet_cases import sheet_cases
 
 DEFAULT_COUNTS = {"plans": 270, "scripts": 470, "sheets": 160}
@@ -58,9 +57,9 @@ def make_pack(what: str, seed: int, count: int) -> bytes:
 
 def expected_texts(what: str, items: list[bytes]) -> list[str]:
     if what == "plans":
-        return [listing_of_bytes(item) for item in items]
+        return [listing_of_bytes(item, b"") for item in items]
     if what == "scripts":
-        return [script_of_bytes(item) for item in items]
+        return [listing_of_bytes(write_plan(Plan()), item) for item in items]
     if len(items) % 2 != 0:
         raise ValueError("the pack ends after a plan without its script")
     return [sheet_of_bytes(plan, script) for plan, script in zip(items[0::2], items[1::2])]

@@ -184,11 +184,3 @@ def listing(plan: Plan) -> str:
             lines.append(f"action {action.number} load {action.load}"
                          f" limit {action.limit} period {action.period}")
     return "".join(line + "\n" for line in lines)
-
-
-def listing_of_bytes(data: bytes) -> str:
-    """The listing, or the line of the plan's first fault."""
-    plan = read_plan(data)
-    if isinstance(plan, Fault):
-        return plan.text()
-    return listing(plan)

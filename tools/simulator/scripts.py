@@ -84,11 +84,3 @@ def read_number(part: bytes, most: int) -> Optional[int]:
 
 def write_script(lines: list[Line]) -> bytes:
     return b"".join(line.text().encode("ascii") + LINE_FEED for line in lines)
-
-
-def script_of_bytes(data: bytes) -> str:
-    """The lines as they were read, in their own order, or the fault line."""
-    lines = read_script(data)
-    if isinstance(lines, Fault):
-        return lines.text()
-    return "".join(line.text() + "\n" for line in lines)

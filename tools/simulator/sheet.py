@@ -1,4 +1,4 @@
-"""Prints the sheet of a plan and a script, or the listing of a plan.
+"""Prints the sheet of a plan and a script, or the listing of both.
 
     python3 tools/simulator/sheet.py [--plan FILE] [--listing] < script
 """
@@ -10,7 +10,7 @@ import sys
 from typing import Iterator
 
 from board import Board
-from plans import Plan, listing_of_bytes, read_plan
+from plans import Plan, listing, read_plan
 from rules import Fault, Number, Refused
 from scripts import Line, read_script
 
@@ -26,10 +26,25 @@ def sheet_of_bytes(plan_data: bytes, script_data: bytes) -> str:
     return "".join(line + "\n" for line in sheet_lines(plan, script))
 
 
+def listing_of_bytes(plan_data: bytes, script_data: bytes) -> str:
+    """The plan's listing and the script's lines in time order, or the line of the first fault."""
+    plan = read_plan(plan_data)
+    if isinstance(plan, Fault):
+        return plan.text()
+    script = read_script(script_data)
+    if isinstance(script, Fault):
+        return script.text()
+    return listing(plan) + "".join(line.text() + "\n" for line in in_time_order(script))
+
+
+def in_time_order(script: list[Line]) -> list[Line]:
+    """By instant; the sort keeps lines of one instant in their own order."""
+    return sorted(script, key=lambda line: line.instant)
+
+
 def sheet_lines(plan: Plan, script: list[Line]) -> Iterator[str]:
     board = Board()  # with the late rule
-    # The sort keeps lines of one instant in their own order.
-    for line in sorted(script, key=lambda line: line.instant):
+    for line in in_time_order(script):
         yield from run_until(board, line.instant)
         if line.letter != "W":
             yield perform(board, plan, line)
@@ -94,13 +109,14 @@ def main() -> None:
     parser = argparse.ArgumentParser(description="Print a sheet or a listing.")
     parser.add_argument("--plan", default="plan.bin", metavar="FILE")
     parser.add_argument("--listing", action="store_true",
-                        help="print what the plan holds; the script is not looked at")
+                        help="print what the plan holds and the script's lines in time order")
     options = parser.parse_args()
     plan_data = read_plan_file(options.plan)
+    script_data = sys.stdin.buffer.read()
     if options.listing:
-        sys.stdout.write(listing_of_bytes(plan_data))
+        sys.stdout.write(listing_of_bytes(plan_data, script_data))
     else:
-        sys.stdout.write(sheet_of_bytes(plan_data, sys.stdin.buffer.read()))
+        sys.stdout.write(sheet_of_bytes(plan_data, script_data))
 
 
 if __name__ == "__main__":

@@ -17,13 +17,13 @@ import board as board_module
 from board import Answer, Board
 from generate import DEFAULT_COUNTS, expected_texts, make_pack, read_pack
 from plan_cases import planted_plans, random_plan
-from plans import Plan, listing, listing_of_bytes, read_plan, write_plan
+from plans import Plan, listing, read_plan, write_plan
 from plantext import TextError, plan_text_to_bytes
 from rules import (HORIZON, Fault, Refused, early_rule, first_boundary, forecast_end,
                    late_rule)
 from script_cases import planted_scripts
 from scripts import read_script, write_script
-from sheet import sheet_of_bytes
+from sheet import listing_of_bytes, sheet_of_bytes
 from sheet_cases import MOST_LINES, planted_sheets
 
 HERE = os.path.dirname(os.path.abspath(__file__))
@@ -77,7 +77,7 @@ class WorkedExample(unittest.TestCase):
         self.assertEqual(plan_text_to_bytes(text), read_file(WORKED, "plan.bin"))
         self.assertEqual(read_file(WORKED, "script.txt"), WORKED_SCRIPT)
         self.assertEqual(read_file(WORKED, "sheet.txt").decode(), WORKED_SHEET)
-        self.assertEqual(listing_of_bytes(read_file(WORKED, "plan.bin")),
+        self.assertEqual(listing_of_bytes(read_file(WORKED, "plan.bin"), read_file(WORKED, "script.txt")),
                          read_file(WORKED, "listing.txt").decode())
 
     def test_lines_out_of_order(self):
@@ -101,7 +101,7 @@ class Commands(unittest.TestCase):
             self.assertEqual(self.run_tool(folder, b"", "plantext.py", text, "plan.bin"), "")
             self.assertEqual(self.run_tool(folder, WORKED_SCRIPT, "sheet.py"), WORKED_SHEET)
             self.assertEqual(self.run_tool(folder, b"bad", "sheet.py"), "fault 3 12 1\n")
-            self.assertEqual(self.run_tool(folder, b"bad", "sheet.py", "--listing"),
+            self.assertEqual(self.run_tool(folder, WORKED_SCRIPT, "sheet.py", "--listing"),
                              read_file(WORKED, "listing.txt").decode())
 
     def test_generate(self):
@@ -263,7 +263,7 @@ class PlantedFaults(unittest.TestCase):
                     self.assertEqual(result, case.fault)
 
     def test_fault_text(self):
-        self.assertEqual(listing_of_bytes(b""), "fault 1 7 0\n")
+        self.assertEqual(listing_of_bytes(b"", b""), "fault 1 7 0\n")
         self.assertEqual(sheet_of_bytes(b"", b"bad"), "fault 1 7 0\n")
         plan = read_file(WORKED, "plan.bin")
         self.assertEqual(sheet_of_bytes(plan, b"0 W\n0 W"), "fault 3 12 2\n")

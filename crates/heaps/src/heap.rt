@@ -2,6 +2,7 @@
 use crate::order::Ordered;
 
 mod methods;
+mod sizes;
 
 // The first `len` of the lent places hold the entries: the parent of each is at or before it.
 #[derive(Drop)]

@@ -8,3 +8,6 @@ pub use first::take_first;
 pub use heap::Heap;
 pub use order::Ordered;
 pub use order::Strict;
+
+#[cfg(test)]
+mod tests;

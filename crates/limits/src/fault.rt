@@ -7,6 +7,7 @@ use crate::refusal::Refusal;
 use crate::refusal::RefusalDebug;
 use crate::refusal::RefusalPartialEq;
 use std::alloc::AllocError;
+use std::alloc::Refused;
 use std::fmt;
 
 // The layer of reading in which a fault arose.
@@ -54,6 +55,14 @@ pub impl From<AllocError> for ReadError as ReadErrorFromAlloc {
     ghost converts = { λ _ r. r ≡ OutOfMemory };
 
     fn from(_e: AllocError) -> ReadError {
+        ReadError::NoMemory
+    }
+}
+
+pub impl<T: Drop> From<Refused<T>> for ReadError as ReadErrorFromRefused {
+    ghost converts = { λ _ r. r ≡ OutOfMemory };
+
+    fn from(_e: Refused<T>) -> ReadError {
         ReadError::NoMemory
     }
 }

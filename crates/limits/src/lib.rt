@@ -10,6 +10,7 @@ pub use fault::LayerDebug;
 pub use fault::LayerPartialEq;
 pub use fault::ReadError;
 pub use fault::ReadErrorFromAlloc;
+pub use fault::ReadErrorFromRefused;
 pub use ranges::CAP_UNIT;
 pub use ranges::HORIZON;
 pub use ranges::MOST_TICKS;

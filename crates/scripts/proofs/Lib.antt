@@ -1,2 +1,4 @@
 pub mod Numbers
 pub mod Fronts
+pub mod Cuts
+pub mod Coming

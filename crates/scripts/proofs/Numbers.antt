@@ -77,8 +77,8 @@ same-number end n m r s ends hn hm e =
     let b = begins text r end n hn refl in
     let c = begins text s end m hm e in
     let long : length (decimal n) ≡ length (decimal m) =
-        ⊎-elim (λ same. same) (⊎-elim (λ l. absurd (no-digit end _ ends (b .at-end) (c .digits (length (decimal n)) l))) (λ l. absurd (no-digit end _ ends (c .at-end) (b .digits (length (decimal m)) l))))
-          (cases-order (length (decimal n)) (length (decimal m))) in
+    ⊎-elim (λ same. same) (⊎-elim (λ l. absurd (no-digit end _ ends (b .at-end) (c .digits (length (decimal n)) l))) (λ l. absurd (no-digit end _ ends (c .at-end) (b .digits (length (decimal m)) l))))
+    (cases-order (length (decimal n)) (length (decimal m))) in
     let front : decimal n ≡ decimal m = sym (take-at (decimal n) (end ∷ r) (length (decimal n)) refl) ∙ ap (take (length (decimal n))) e ∙ take-at (decimal m) (end ∷ s) (length (decimal n)) (sym long) in
     let back : end ∷ r ≡ end ∷ s = sym (drop-at (decimal n) (end ∷ r) (length (decimal n)) refl) ∙ ap (drop (length (decimal n))) e ∙ drop-at (decimal m) (end ∷ s) (length (decimal n)) (sym long) in
     (same-from-decimal n m hn hm front, ap (drop 1) back)
@@ -98,8 +98,8 @@ module _ (text : List ℕ) (end most i value : ℕ) (ends : Ends end) (bound : m
       let same = r .is in
       let first : getD (take i text) 0 0 ≡ getD text 0 0 = getD-take i text 0 0 some in
       let written : decimal (read (take i text)) ≡ take i text =
-          decimal-value own (take i text) (λ k h. subst (In 48 57) (sym (getD-take i text k 0 (omega arith))) (r .digits k (omega arith))) (omega arith)
-            (λ z. ⊎-elim (λ e. omega arith) (⊎-elim (λ e. omega arith) (λ e. absurd (r .lead e (sym first ∙ z)))) (cases-order i 1)) (omega arith) in
+      decimal-value own (take i text) (λ k h. subst (In 48 57) (sym (getD-take i text k 0 (omega arith))) (r .digits k (omega arith))) (omega arith)
+      (λ z. ⊎-elim (λ e. omega arith) (⊎-elim (λ e. omega arith) (λ e. absurd (r .lead e (sym first ∙ z)))) (cases-order i 1)) (omega arith) in
       (few, sym (take-append-drop i text) ∙ (λ j. (sym written ∙ ap decimal (sym same)) j ++ (drop-more text i 0 l ∙ ap (λ c. c ∷ drop (i + 1) text) at) j))
 
   pub next : i < length text → In 48 57 (getD text i 0) → (i ≡ 1 → getD text 0 0 ≡ 48 → ⊥) → step value (getD text i 0) ≤ most → Reading text most (i + 1) (step value (getD text i 0))

@@ -1,2 +1,5 @@
 pub mod Lines
 pub mod Fields
+pub mod Reads
+pub mod Dues
+pub mod Agendas

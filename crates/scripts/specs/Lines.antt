@@ -9,7 +9,7 @@ use Rattle.std.specs.Written.{decimal}
 use lib.Chars.{codes}
 use lib.Dec.{leb}
 use mathlib.Core.Bool.{Bool, true, _&&_}
-use mathlib.Core.List.{List, _++_}
+use mathlib.Core.List.{List, [], _∷_, _++_}
 
 -- a letter, and the numbers of a server and an action, each after one space
 abbrev pub commandText : Command → List ℕ
@@ -18,7 +18,11 @@ commandText (Leave s) = codes "L " ++ decimal s
 commandText (Start s a) = codes "S " ++ (decimal s ++ (codes " " ++ decimal a))
 commandText Wait = codes "W"
 
--- the instant, a space, the command and a line feed
+-- the instant, a space and the command
+abbrev pub shownLine : Line → List ℕ
+shownLine l = decimal (l .instant) ++ (codes " " ++ commandText (l .command))
+
+-- the same and a line feed
 abbrev pub lineText : Line → List ℕ
 lineText l = decimal (l .instant) ++ (codes " " ++ (commandText (l .command) ++ codes "\n"))
 
@@ -35,3 +39,7 @@ validCommand Wait = true
 -- the instant is up to the horizon
 abbrev pub validLine : Line → Bool
 validLine l = leb (l .instant) horizon && validCommand (l .command)
+
+abbrev pub validLines : List Line → Bool
+validLines [] = true
+validLines (l ∷ ls) = validLine l && validLines ls

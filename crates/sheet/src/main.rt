@@ -1,4 +1,4 @@
-// Prints what plan.bin holds, or its first fault.
+// Prints what plan.bin and the script on standard input hold, or the first fault.
 use sheets::MOST_PLAN_BYTES;
 use sheets::MOST_SCRIPT_BYTES;
 use std::alloc::Global;
@@ -30,8 +30,8 @@ fn read_plan(rt: &LibcRuntime) -> io::Result<Vec<u8>> {
 
 fn run(rt: &LibcRuntime) -> Result<(), AnyError> {
     let plan = read_plan(rt)?;
-    let _script = read_bounded(rt.alloc(), rt.stdin(), MOST_SCRIPT_BYTES + 1)?;
-    let text = sheets::output(rt.alloc(), plan.as_slice())?;
+    let script = read_bounded(rt.alloc(), rt.stdin(), MOST_SCRIPT_BYTES + 1)?;
+    let text = sheets::output(rt.alloc(), plan.as_slice(), script.as_slice())?;
     rt.print(text.as_str())?;
     Ok(())
 }

@@ -2,7 +2,6 @@
 // asks for it (`Sound`) and keeps it, and the making gives it.
 ghost use Rattle.heaps.specs.Held.{Leads, Sound, held, room};
 ghost use Rattle.heaps.specs.Answers.{Least, Put, Taken};
-ghost use lib.Dec.{eqb};
 ghost use lib.ListN.{length};
 ghost use mathlib.Core.List.{[]};
 ghost use mathlib.Core.Path.{_≡_};
@@ -20,21 +19,6 @@ impl<'a, E: Ordered> Heap<'a, E> {
         ensures keeps { λ r. ⌜ Sound atOrBefore r ⌝ }
     {
         Heap { places, len: 0 }
-    }
-
-    // How many entries it holds.
-    pub fn len(&self) -> usize
-        requires { ⌜ Sound atOrBefore (now self) ⌝ }
-        ensures answer { λ r. ⌜ r ≡ length (held (now (self .entry))) ⌝ }
-    {
-        self.len
-    }
-
-    pub fn is_empty(&self) -> bool
-        requires { ⌜ Sound atOrBefore (now self) ⌝ }
-        ensures answer { λ r. ⌜ r ≡ eqb (length (held (now (self .entry)))) 0 ⌝ }
-    {
-        self.len == 0
     }
 
     // Adds an entry. Refuses exactly when every place is taken, and then changes nothing.
@@ -81,5 +65,14 @@ impl<'a, E: Ordered> Heap<'a, E> {
             return None;
         }
         Some(self.places[0])
+    }
+
+    // Lets every entry go.
+    pub fn clear(&mut self)
+        ensures after { λ _. ⌜ held (now (self .exit)) ≡ [] ⌝ }
+        ensures space { λ _. ⌜ room (now (self .exit)) ≡ room (now (self .entry)) ⌝ }
+        ensures keeps { λ _. ⌜ Sound atOrBefore (now (self .exit)) ⌝ }
+    {
+        self.len = 0;
     }
 }

@@ -12,7 +12,9 @@ returns-in-Break-server-3 c =
 pub returns-in-Continue-server-3 : need.returns-in-Continue-server-3
 returns-in-Continue-server-3 c =
     let start = c .in-Continue-server-3 .ensures tt .answer in
-    record { answer = (
-      and-from _ _ (le-leb _ 255 (start .0)) (le-leb _ 255 (start .1)),
-      c .in-Continue-letter .ensures tt .cases .0 ∙ (λ i. c .in-S .is i ∷ start .2 i) ∙ sym (start-parts _ _ _),
-    ) }
+    record {
+      answer = (
+        and-from _ _ (le-leb _ 255 (start .0)) (le-leb _ 255 (start .1)),
+        c .in-Continue-letter .ensures tt .cases .0 ∙ (λ i. c .in-S .is i ∷ start .2 i) ∙ sym (start-parts _ _ _),
+      );
+    }
