@@ -6,5 +6,4 @@ pub returns : need.returns
 returns g c =
     let laws = g .E·Ordered·met in
     let h = c .args .self .now in
-    let x = c .index-self-0 .result in
-    record { answer = (moves.leads (g .E·Ordered .atOrBefore) (laws .total) (laws .carries) (h .places .now) (h .len) x (c .pre .0) (c .pre .1), moves.has-first (h .places .now) (h .len) x (omega arith) (c .pre .0)) }
+    record { answer = (moves.leads (g .E·Ordered .atOrBefore) (laws .total) (laws .carries) (h .places .now) (h .len) _ (c .pre .0) (c .pre .1), moves.has-first (h .places .now) (h .len) _ (omega arith) (c .pre .0)) }
