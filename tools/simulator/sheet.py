@@ -11,7 +11,7 @@ from typing import Iterator
 
 from board import Board
 from plans import Plan, listing, read_plan
-from rules import Fault, Number, Refused
+from rules import HORIZON, Fault, Number, Refused, forecast_end, late_rule
 from scripts import Line, read_script
 
 
@@ -27,14 +27,26 @@ def sheet_of_bytes(plan_data: bytes, script_data: bytes) -> str:
 
 
 def listing_of_bytes(plan_data: bytes, script_data: bytes) -> str:
-    """The plan's listing and the script's lines in time order, or the line of the first fault."""
+    """The plan's listing, its forecasts and the script's lines in time order, or the line of the first fault."""
     plan = read_plan(plan_data)
     if isinstance(plan, Fault):
         return plan.text()
     script = read_script(script_data)
     if isinstance(script, Fault):
         return script.text()
-    return listing(plan) + "".join(line.text() + "\n" for line in in_time_order(script))
+    lines = list(forecast_lines(plan)) + [line.text() for line in in_time_order(script)]
+    return listing(plan) + "".join(line + "\n" for line in lines)
+
+
+def forecast_lines(plan: Plan) -> Iterator[str]:
+    """When each action ends if it starts at instant 0 under the late rule."""
+    for server in plan.servers:
+        for action in server.actions:
+            end = forecast_end(late_rule, 0, action.load, action.limit, action.period)
+            refusal = 0
+            if end > HORIZON:
+                refusal, end = Number.OVER_HORIZON.value, 0
+            yield f"forecast {server.number} {action.number} {refusal} {end}"
 
 
 def in_time_order(script: list[Line]) -> list[Line]:
@@ -109,7 +121,7 @@ def main() -> None:
     parser = argparse.ArgumentParser(description="Print a sheet or a listing.")
     parser.add_argument("--plan", default="plan.bin", metavar="FILE")
     parser.add_argument("--listing", action="store_true",
-                        help="print what the plan holds and the script's lines in time order")
+                        help="print what the plan holds, when its actions end, and the script's lines")
     options = parser.parse_args()
     plan_data = read_plan_file(options.plan)
     script_data = sys.stdin.buffer.read()

@@ -12,6 +12,7 @@ use Rattle.scripts.specs.Dues.{timeOrder}
 use Rattle.scripts.specs.Lines.{scriptText}
 use Rattle.scripts.specs.Reads as scripts
 use Rattle.scripts.specs.declared.script.Script.{Script}
+use Rattle.sheets.specs.Forecasts.{forecastLines}
 use Rattle.std.specs.Of.String.{string-bytes}
 use Rattle.std.specs.Results.{isErr}
 use Rattle.std.specs.Vec.{made}
@@ -33,9 +34,9 @@ abbrev pub Told : ReadError → Result (String Global) AllocError → Type 0
 Told (AtFault f) r = made r (λ text. string-bytes text ≡ faultLine f)
 Told NoMemory r = isErr r ≡ true
 
--- the plan in words, and the lines of the script in time order
+-- the plan in words, when its actions end, and the lines of the script in time order
 abbrev pub listed : Plan → Script → List ℕ
-listed p s = listing (plans.serversOf p) ++ scriptText (timeOrder (scripts.linesOf s))
+listed p s = (listing (plans.serversOf p) ++ forecastLines (plans.serversOf p)) ++ scriptText (timeOrder (scripts.linesOf s))
 
 -- the bytes are a plan and a script
 pub record Both (plan script text : List ℕ) : Type 0 where

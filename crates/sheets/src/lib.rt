@@ -7,6 +7,7 @@ ghost use Rattle.std.specs.Of.String.{string-bytes};
 ghost use Rattle.std.specs.Vec.{made};
 ghost use mathlib.Core.List.{_++_};
 ghost use mathlib.Core.Path.{_≡_};
+use crate::forecasts::list_forecasts;
 use limits::FaultDisplay;
 use limits::ReadError;
 use plans::Plan;
@@ -17,6 +18,8 @@ use scripts::LineDisplay;
 use scripts::Script;
 use std::alloc::AllocError;
 use std::alloc::Global;
+
+mod forecasts;
 
 // The longest plan, in bytes: one byte more decides that bytes are no plan.
 pub const MOST_PLAN_BYTES: u64 = 16_384;
@@ -52,6 +55,7 @@ fn list(heap: Global, plan: &Plan, script: &Script) -> Result<String, AllocError
     ensures answer { λ r. ⌜ made r (λ text. string-bytes text ≡ listed (now (plan .entry)) (now (script .entry))) ⌝ }
 {
     let mut out = plan.listing(heap)?;
+    list_forecasts(heap, &mut out, plan)?;
     list_lines(heap, &mut out, script)?;
     Ok(out)
 }
@@ -67,7 +71,7 @@ fn error_text(heap: Global, error: ReadError) -> Result<String, AllocError>
 }
 
 // What is printed of the bytes of a plan and a script: the first fault of the plan or else of the script, or else the
-// plan in words and the script's lines in time order.
+// plan in words, the forecast end of each of its actions and the script's lines in time order.
 pub fn output(heap: Global, plan: &[u8], script: &[u8]) -> Result<String, AllocError>
     ensures answer { λ r. ⌜ made r (λ text. Printed (now (plan .entry)) (now (script .entry)) (string-bytes text)) ⌝ }
 {

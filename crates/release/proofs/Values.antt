@@ -1,0 +1,34 @@
+-- The values of an action that passes its checks.
+use Prim.Native.Nat.{ℕ, _≤_}
+use Rattle.limits.proofs.Passed.{refuse-none}
+use Rattle.limits.specs.Ranges.{mostTicks, outside}
+use Rattle.limits.specs.declared.refusal.Refusal.the-variants.{Load, Period, Limit}
+use Rattle.release.specs.Actions.{Action}
+use Rattle.release.specs.Forecasts.{valuesCheck}
+use Rattle.std.proofs.shelf.Tests.{ltb-false, or-parts}
+use Rattle.std.specs.declared.option.Option.the-variants.{None}
+use lib.Dec.{ltb}
+use mathlib.Core.Bool.{false}
+use mathlib.Core.Path.{_≡_}
+
+-- what is not outside lies inside
+pub inside : (n top : ℕ) → outside n top ≡ false → (1 ≤ n) × (n ≤ top)
+inside n top h = let p = or-parts (ltb n 1) (ltb top n) h in (ltb-false n 1 (p .0), ltb-false top n (p .1))
+
+pub record Ranged (k : Action) : Type 0 where
+  pub some : 1 ≤ k .load
+  pub most : k .load ≤ mostTicks
+  pub turn : 1 ≤ k .period
+  pub long : k .period ≤ mostTicks
+  pub pace : 1 ≤ k .limit
+  pub slow : k .limit ≤ k .period
+
+pub ranged : (k : Action) → valuesCheck k ≡ None → Ranged k
+ranged k h =
+    let a = refuse-none (outside (k .load) mostTicks) Load _ h in
+    let b = refuse-none (outside (k .period) mostTicks) Period _ (a .1) in
+    let c = refuse-none (outside (k .limit) (k .period)) Limit None (b .1) in
+    let x = inside (k .load) mostTicks (a .0) in
+    let y = inside (k .period) mostTicks (b .0) in
+    let z = inside (k .limit) (k .period) (c .0) in
+    record { some = x .0; most = x .1; turn = y .0; long = y .1; pace = z .0; slow = z .1 }
