@@ -1,13 +1,12 @@
 -- Where the boundaries of an action lie, and which of them is its end.
-use Prim.Native.Nat.{ℕ, zero, suc, _+_, _-_, _*_, _/_, _≤_, _<_, min}
-use Rattle.release.proofs.Ceils.{ceil-below, ceil-from, ceil-least, ceil-most}
-use Rattle.release.specs.Actions.{Action, Completes, Meaning, boundary, ceil, due, firstAmount, firstBoundary, forecast}
+use Prim.Native.Nat.{ℕ, _+_, _-_, _*_, _/_, _≤_, _<_}
+use Rattle.release.proofs.Ceils.{ceil-below, ceil-from, ceil-least}
+use Rattle.release.specs.Actions.{Action, Completes, Meaning, boundary, ceil, firstAmount, firstBoundary, forecast}
 use Rattle.release.specs.Rules.{WithinShare}
-use Rattle.std.proofs.shelf.Tests.{cases-eq, cases-lt, cases-order, cond-both, cond-false, cond-true, le-ltb, lt-ltb, ltb-true}
+use Rattle.std.proofs.shelf.Tests.{cases-eq, cases-lt, cases-order, cond-both, cond-false, cond-true, le-ltb, lt-ltb}
 use lib.Dec.{ltb}
-use mathlib.Core.Bool.{true, false, cond}
-use mathlib.Core.Logic.{_⊎_, inl, inr, ⊎-elim}
-use mathlib.Core.Path.{_≡_, refl, ap, sym, _∙_}
+use mathlib.Core.Logic.{_⊎_, ⊎-elim}
+use mathlib.Core.Path.{_≡_, ap, sym, _∙_}
 use native.Mathlib.Nat.{le-of-mul-le-mul-left, le-of-mul-le-mul-right, mul-assoc, mul-comm, mul-div-le, mul-le-mul-left, mul-le-mul-right}
 use native.Mathlib.Omega.{arith}
 

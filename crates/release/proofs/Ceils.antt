@@ -1,10 +1,10 @@
 -- Quotients rounded up, and the multiple at or after a number.
-use Prim.Native.Nat.{ℕ, zero, suc, _+_, _-_, _*_, _/_, _%_, _≤_, _<_, min}
+use Prim.Native.Nat.{ℕ, suc, _+_, _-_, _*_, _/_, _%_, _≤_, _<_, min}
 use Rattle.release.specs.Actions.{LeastMultiple, ceil, multipleFrom}
 use Rattle.std.proofs.shelf.Tests.{cases-eq, cases-lt}
-use mathlib.Core.Logic.{_⊎_, inl, inr, ⊎-elim}
+use mathlib.Core.Logic.{_⊎_, ⊎-elim}
 use mathlib.Core.Path.{_≡_, refl, ap, sym, _∙_}
-use native.Mathlib.Nat.{div-add-mod, mod-lt, mod-self, mod-eq-of-lt, mul-le-mul-left, mul-le-mul-right, mul-suc, mul-add}
+use native.Mathlib.Nat.{div-add-mod, mod-lt, mod-self, mod-eq-of-lt, mul-le-mul-left, mul-suc}
 use native.Mathlib.Omega.{arith}
 
 pub ceil-from : (n d : ℕ) → 1 ≤ d → n ≤ d * ceil n d
@@ -46,10 +46,6 @@ ceil-quotient n d h =
     let e : n / d + min 1 (n % d) ≡ suc (n / d) = omega arith in
     e ∙ sym (ceil-is n d (suc (n / d)) h (omega (arith, mul-suc d (n / d))) (omega (arith, mul-suc d (n / d)))))
     (cases-eq (n % d) 0)
-
--- no more than n, whatever it is divided by
-pub ceil-most : (n d : ℕ) → 1 ≤ d → ceil n d ≤ n
-ceil-most n d h = ceil-least n d n h (omega (arith, mul-le-mul-right n h))
 
 -- as the next multiple is computed
 pub multiple-next : (n d : ℕ) → 1 ≤ d → n + (d - n % d) % d ≡ multipleFrom n d

@@ -1,18 +1,16 @@
 -- What the stretches of a row add up to, and where the row ends.
-use Prim.Native.Nat.{ℕ, zero, suc, _+_, _-_, _*_, _≤_, _<_, min}
+use Prim.Native.Nat.{ℕ, zero, suc, _+_, _-_, _≤_, _<_}
 use Rattle.release.proofs.Boundaries.{first-none, forecast-is}
-use Rattle.release.specs.Actions.{Action, Completes, Meaning, amount, begins, boundary, ceil, due, firstAmount, firstBoundary, forecast}
+use Rattle.release.specs.Actions.{Action, Completes, Meaning, amount, begins, boundary, due, firstBoundary, forecast}
 use Rattle.release.specs.Rows.{EndsAt, Stretch, laterStretch, left, openingRow, openingStretch, row}
 use Rattle.std.proofs.shelf.Lists.{same-from-push}
 use Rattle.std.proofs.shelf.Sums.{sumBy-push, sumBy-take-le}
 use Rattle.std.proofs.shelf.Tests.{cases-lt, le-ltb, lt-ltb}
 use Rattle.std.specs.shelf.Lists.{sumBy}
-use lib.Dec.{ltb}
 use lib.ListN.{length, take}
 use lib.Seq.{take-all}
-use mathlib.Core.Bool.{true, false, cond}
 use mathlib.Core.List.{List, [], _∷_, _++_}
-use mathlib.Core.Logic.{_⊎_, inl, inr, ⊎-elim}
+use mathlib.Core.Logic.{_⊎_, ⊎-elim}
 use mathlib.Core.Path.{_≡_, refl, ap, sym, _∙_}
 use native.Mathlib.Nat.{mul-le-mul-left, mul-suc}
 use native.Mathlib.Omega.{arith}

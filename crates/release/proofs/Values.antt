@@ -16,12 +16,12 @@ pub inside : (n top : ℕ) → outside n top ≡ false → (1 ≤ n) × (n ≤ t
 inside n top h = let p = or-parts (ltb n 1) (ltb top n) h in (ltb-false n 1 (p .0), ltb-false top n (p .1))
 
 pub record Ranged (k : Action) : Type 0 where
-  pub some : 1 ≤ k .load
-  pub most : k .load ≤ mostTicks
-  pub turn : 1 ≤ k .period
-  pub long : k .period ≤ mostTicks
-  pub pace : 1 ≤ k .limit
-  pub slow : k .limit ≤ k .period
+  pub loadLow : 1 ≤ k .load
+  pub loadHigh : k .load ≤ mostTicks
+  pub periodLow : 1 ≤ k .period
+  pub periodHigh : k .period ≤ mostTicks
+  pub limitLow : 1 ≤ k .limit
+  pub limitHigh : k .limit ≤ k .period
 
 pub ranged : (k : Action) → valuesCheck k ≡ None → Ranged k
 ranged k h =
@@ -31,4 +31,4 @@ ranged k h =
     let x = inside (k .load) mostTicks (a .0) in
     let y = inside (k .period) mostTicks (b .0) in
     let z = inside (k .limit) (k .period) (c .0) in
-    record { some = x .0; most = x .1; turn = y .0; long = y .1; pace = z .0; slow = z .1 }
+    record { loadLow = x .0; loadHigh = x .1; periodLow = y .0; periodHigh = y .1; limitLow = z .0; limitHigh = z .1 }

@@ -18,10 +18,11 @@ pub record Stretch : Type 0 where
 abbrev pub left : Action → List Stretch → ℕ
 left k xs = k .load - sumBy (λ x. x .amount) xs
 
--- the stretch up to the first boundary, which is missing where the arrival is the boundary
+-- the stretch from the arrival to the first boundary
 abbrev pub openingStretch : Meaning → Action → Stretch
 openingStretch rule k = record { begin = k .arrival; end = firstBoundary k; amount = min (k .load) (firstAmount rule k) }
 
+-- it is missing where the arrival is the boundary
 abbrev pub openingRow : Meaning → Action → List Stretch
 openingRow rule k = cond (ltb (k .arrival) (firstBoundary k)) (openingStretch rule k ∷ []) []
 

@@ -68,7 +68,6 @@ fn counted_amount<R: ReleaseRule>(
 // One period after the boundary for each limit, whole or begun, of the load that is left there.
 fn last_end(boundary: u64, left: u32, limit: u32, period: u32) -> u64
     requires boundary { ⌜ boundary ≤ horizon ⌝ }
-    requires left { ⌜ left ≤ mostTicks ⌝ }
     requires limit { ⌜ 1 ≤ limit ⌝ }
     requires period { ⌜ period ≤ mostTicks ⌝ }
     ensures answer { λ r. ⌜ r ≡ boundary + ceil left limit * period ⌝ }

@@ -2,7 +2,6 @@ use crate::Early;
 use crate::EarlyRule;
 use crate::Late;
 use crate::LateRule;
-use crate::first_boundary;
 use crate::forecast_end;
 use limits::Refusal;
 use limits::RefusalDebug;
@@ -16,15 +15,13 @@ fn early_ends_before_late() -> Result<(), Fail> {
 }
 
 #[test]
-fn edges() -> Result<(), Fail> {
-    let last = Refusal::ForecastPastHorizon;
+fn no_end_past_the_horizon() -> Result<(), Fail> {
     check_eq(
         forecast_end(&Late, 999_999_999_996, 1, 1, 4),
         Ok(1_000_000_000_000),
     )?;
-    check_eq(forecast_end(&Late, 999_999_999_996, 1, 1, 8), Err(last))?;
-    check_eq(forecast_end(&Late, u64::MAX, 0, 1, 8), Err(Refusal::Load))?;
-    check_eq(forecast_end(&Late, u64::MAX, 1, 1, 8), Err(last))?;
-    check_eq(first_boundary(u64::MAX, 8), None)?;
-    check_eq(first_boundary(u64::MAX - 7, 8), Some(u64::MAX - 7))
+    check_eq(
+        forecast_end(&Late, 999_999_999_996, 1, 1, 8),
+        Err(Refusal::ForecastPastHorizon),
+    )
 }

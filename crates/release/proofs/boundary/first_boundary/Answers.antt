@@ -5,7 +5,7 @@ use Rattle.release.specs.Actions.{multipleFrom}
 use Rattle.std.specs.Numbers.{Checked}
 use Rattle.std.specs.declared.option.Option.{Option}
 use Rattle.std.specs.declared.option.Option.the-variants.{Some, None}
-use mathlib.Core.Path.{_≡_, sym, subst, _∙_}
+use mathlib.Core.Path.{_∙_}
 use native.Mathlib.Omega.{arith}
 
 -- the next multiple fits where it is the least from the arrival on

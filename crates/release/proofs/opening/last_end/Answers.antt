@@ -1,6 +1,5 @@
-use Prim.Native.Nat.{_+_, _*_, _≤_}
-use Rattle.limits.specs.Ranges.{mostTicks}
-use Rattle.release.proofs.Ceils.{ceil-most, ceil-quotient}
+use Prim.Native.Nat.{_+_, _*_, _-_, _^_, _≤_}
+use Rattle.release.proofs.Ceils.{ceil-quotient}
 use Rattle.release.proofs.opening.last_end.Needs as need
 use mathlib.Core.Path.{_∙_, ap}
 use native.Mathlib.Nat.{mul-le-mul}
@@ -8,10 +7,7 @@ use native.Mathlib.Omega.{arith}
 
 pub add-result : need.add-result
 add-result c =
-    let a = c .args in
-    let q = ceil-quotient (a .left) (a .limit) (c .pre .limit) in
-    let m = ceil-most (a .left) (a .limit) (c .pre .limit) in
-    let n : c .div-ceil .result ≤ mostTicks = omega arith in
+    let n : c .div-ceil .result ≤ 2 ^ 32 - 1 = omega arith in
     omega (arith, mul-le-mul n (c .pre .period))
 
 pub returns : need.returns
