@@ -1,0 +1,9 @@
+pub mod Entries
+pub mod Dues
+pub mod Checks
+pub mod Sizes
+pub mod Words
+pub mod Rows
+pub mod Lists
+pub mod Finds
+pub mod Makes
