@@ -1,0 +1,11 @@
+pub mod Flags
+pub mod Ties
+pub mod Picks
+pub mod Slotwise
+pub mod Closes
+pub mod Loops
+pub mod Turns
+pub mod Judged
+pub mod Openings
+pub mod Begins
+pub mod Unseen

@@ -1,0 +1,4 @@
+pub mod Slots
+pub mod Marks
+pub mod Checks
+pub mod Steps
