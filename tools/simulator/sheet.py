@@ -7,7 +7,7 @@ from __future__ import annotations
 
 import argparse
 import sys
-from typing import Iterator
+from typing import Iterator, Union
 
 from board import Board
 from plans import Plan, listing, read_plan
@@ -15,25 +15,31 @@ from rules import HORIZON, Fault, Number, Refused, forecast_end, late_rule
 from scripts import Line, read_script
 
 
-def sheet_of_bytes(plan_data: bytes, script_data: bytes) -> str:
-    """The sheet, or the line of the first fault: the plan's, then the script's."""
+def read_both(plan_data: bytes, script_data: bytes) -> Union[tuple[Plan, list[Line]], Fault]:
+    """The plan and the script, or the first fault: the plan's, then the script's."""
     plan = read_plan(plan_data)
     if isinstance(plan, Fault):
-        return plan.text()
+        return plan
     script = read_script(script_data)
     if isinstance(script, Fault):
-        return script.text()
-    return "".join(line + "\n" for line in sheet_lines(plan, script))
+        return script
+    return plan, script
+
+
+def sheet_of_bytes(plan_data: bytes, script_data: bytes) -> str:
+    """The sheet, or the line of the first fault."""
+    both = read_both(plan_data, script_data)
+    if isinstance(both, Fault):
+        return both.text()
+    return "".join(line + "\n" for line in sheet_lines(*both))
 
 
 def listing_of_bytes(plan_data: bytes, script_data: bytes) -> str:
     """The plan's listing, its forecasts and the script's lines in time order, or the line of the first fault."""
-    plan = read_plan(plan_data)
-    if isinstance(plan, Fault):
-        return plan.text()
-    script = read_script(script_data)
-    if isinstance(script, Fault):
-        return script.text()
+    both = read_both(plan_data, script_data)
+    if isinstance(both, Fault):
+        return both.text()
+    plan, script = both
     lines = list(forecast_lines(plan)) + [line.text() for line in in_time_order(script)]
     return listing(plan) + "".join(line + "\n" for line in lines)
 

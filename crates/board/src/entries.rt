@@ -8,7 +8,7 @@ use queues::Entry;
 use queues::Queue;
 
 // Takes every entry out.
-pub fn clear<Q: Queue>(queue: &mut Q)
+pub(crate) fn clear<Q: Queue>(queue: &mut Q)
     requires { ⌜ Q·Queue .sound (now queue) ⌝ }
     ensures after { λ _. ⌜ Empty (Q·Queue .due (now (queue .exit))) ⌝ }
     ensures keeps { λ _. ⌜ Q·Queue .sound (now (queue .exit)) ⌝ }
@@ -17,7 +17,7 @@ pub fn clear<Q: Queue>(queue: &mut Q)
 }
 
 // Puts an entry that the queue has to take.
-pub fn enter<Q: Queue>(queue: &mut Q, server: u8, instant: u64)
+pub(crate) fn enter<Q: Queue>(queue: &mut Q, server: u8, instant: u64)
     requires sound { ⌜ Q·Queue .sound (now queue) ⌝ }
     requires server { ⌜ (1 ≤ server) × (server ≤ servers) ⌝ }
     requires instant { ⌜ instant ≤ horizon ⌝ }
@@ -32,7 +32,7 @@ pub fn enter<Q: Queue>(queue: &mut Q, server: u8, instant: u64)
 }
 
 // Takes the first entry, which is known.
-pub fn strike<Q: Queue>(queue: &mut Q, first: Entry)
+pub(crate) fn strike<Q: Queue>(queue: &mut Q, first: Entry)
     requires sound { ⌜ Q·Queue .sound (now queue) ⌝ }
     requires first { ⌜ First (Q·Queue .due (now queue)) (Some first) ⌝ }
     ensures after { λ _. ⌜ Taken (Q·Queue .due (now (queue .entry))) (Q·Queue .due (now (queue .exit))) (Some first) ⌝ }
