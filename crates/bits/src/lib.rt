@@ -1,4 +1,6 @@
 // Single bits of a word, and the lowest set one. Bits are numbered from 0; a word has 64.
+#![tactic(auto)]
+
 ghost use Rattle.bits.specs.Words.{Cleared, LowestOf, Set, bit};
 ghost use Rattle.std.specs.Prelude.{◌≡◌, ◌==◌};
 

@@ -1,4 +1,6 @@
 // Plays stored lists of board calls under each release rule and on four makes of board, and prints every answer.
+#![tactic(auto)]
+
 ghost use Rattle.std.specs.Prelude.{◌≡◌, ◌+◌, ◌≤◌, length, IfSome, IfOk};
 ghost use Rattle.board.specs.Boards.{Agrees};
 ghost use Rattle.queues.specs.Makes.{Kept};

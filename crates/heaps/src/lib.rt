@@ -1,4 +1,6 @@
 // A binary heap over lent memory, for every kind of entry that has an order.
+#![tactic(auto)]
+
 mod first;
 mod heap;
 mod order;

@@ -1,4 +1,6 @@
 // What every layer shares: the ranges of the subject, the refusals with their fixed numbers, and the faults of input.
+#![tactic(auto)]
+
 mod fault;
 mod ranges;
 mod refusal;

@@ -1,5 +1,7 @@
 // Packs of stored cases, for the programs that play them: items one after another, each its length in four bytes,
 // the low byte first, and then its bytes.
+#![tactic(auto)]
+
 ghost use Rattle.std.specs.Prelude.{◌≤◌, length};
 ghost use Rattle.packs.specs.Items.{Split};
 

@@ -1,4 +1,6 @@
 // Plans: which servers a rig has and which actions each owes, read from bytes, exactly.
+#![tactic(auto)]
+
 mod entry;
 mod fault;
 mod listing;

@@ -1,4 +1,6 @@
 // Plays one stored list of operations on each make of a queue, and prints every answer.
+#![tactic(auto)]
+
 ghost use Rattle.std.specs.Prelude.{◌≡◌, ◌+◌, length, IfSome};
 
 use anyhow::anyhow;

@@ -1,4 +1,6 @@
 // Queues of entries, at most one for each server: the trait, and two makes of it.
+#![tactic(auto)]
+
 mod checks;
 mod entry;
 mod heap_queue;

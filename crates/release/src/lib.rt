@@ -1,4 +1,6 @@
 // One action on paper: release rules, boundaries, and the end of an action when it starts.
+#![tactic(auto)]
+
 mod boundary;
 mod early;
 mod figures;

@@ -1,4 +1,6 @@
 // Reads many stored scripts and prints what the program prints of each.
+#![tactic(auto)]
+
 use packs::split_item;
 use std::fs;
 

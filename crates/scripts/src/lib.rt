@@ -1,4 +1,6 @@
 // Scripts: what is called at which instant, read from bytes, exactly, and brought into time order.
+#![tactic(auto)]
+
 mod agenda;
 mod due;
 mod line;

@@ -1,4 +1,6 @@
 // Calls, answers and the share law: what the answers of a board to any list of calls have in common.
+#![tactic(auto)]
+
 mod calls;
 mod examples;
 mod playing;

@@ -1,4 +1,6 @@
 // Prints what plan.bin and the script on standard input hold, or the first fault.
+#![tactic(auto)]
+
 use sheets::{MOST_PLAN_BYTES, MOST_SCRIPT_BYTES};
 use std::alloc::Global;
 use std::io::{ErrorKind, Read};

@@ -1,4 +1,6 @@
 // Plays stored plans and scripts, and prints the sheet of each.
+#![tactic(auto)]
+
 ghost use Rattle.std.specs.Prelude.{◌<◌, length, IfSome};
 
 use packs::split_item;

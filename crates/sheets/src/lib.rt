@@ -1,4 +1,6 @@
 // What the program prints of a plan and a script.
+#![tactic(auto)]
+
 ghost use Rattle.scripts.specs.Dues.{time_order};
 ghost use Rattle.scripts.specs.Lines.{line_text_of, script_text};
 ghost use Rattle.scripts.specs.Reads.{lines_of};

@@ -1,4 +1,6 @@
 // Slots: what each server is doing, what each call makes of it, and the proof that no stretch ends unserved.
+#![tactic(auto)]
+
 mod figures;
 mod sets;
 mod slot;

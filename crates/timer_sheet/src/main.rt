@@ -1,4 +1,6 @@
 // Prints the timer sheet of plan.bin and the script on standard input, or the first fault.
+#![tactic(auto)]
+
 use std::alloc::Global;
 use std::io::{BufWriter, ErrorKind, Read, Write};
 use std::{fs, io};

@@ -1,5 +1,7 @@
 // The timer sheet: the calls that a script asks of a board and their answers, and the runs of ticks between them, line
 // by line.
+#![tactic(auto)]
+
 mod line;
 mod output;
 mod play;
