@@ -63,6 +63,9 @@ NAME = r"[A-Za-zℕμ][\w'ℕμ′]*(?:-[\w'ℕμ′≡≤<∷]+)*"
 WORD = re.compile(r"(?<![\w'-])" + NAME + r"(?![\w'-])")
 DECLARED = re.compile(r"^(\s*)(?:(?:pub|abbrev|unfoldable|record|data|ruleset|module)\s+)*(" + NAME + r")\s*(?:[:({]|$)")
 
+# Names of the library that a line of a proof can begin with, so that they look declared there.
+LIBRARY = {"All-from_get_or", "All-weaker", "cond-true", "le_of_mul-le-mul_right"}
+
 
 def files(root, ending):
     for folder, dirs, names in os.walk(os.path.join(root, "crates")):
@@ -101,7 +104,7 @@ def main(argv):
     dry = "--dry" in argv
     root = ([a for a in argv if a != "--dry"] or ["."])[0]
     antt, rust = list(files(root, ".antt")), list(files(root, ".rt"))
-    own = {name for path in antt for name in declared(path)}
+    own = {name for path in antt for name in declared(path)} - LIBRARY
     turned = {}
     for name in sorted(own):
         new = OTHER.get(name, respelled(name))

@@ -13,7 +13,7 @@ use Rattle.slots.specs.Steps.{opened}
 use Rattle.slots.specs.declared.slot.Slot.{Slot}
 use Rattle.slots.specs.declared.slot.Slot.TheVariants.{Absent, Resting, Working}
 use Rattle.slots.specs.declared.slot.Work.{Work}
-use Rattle.std.proofs.lemmas.Bool.{cases_eq, cases_lt, cond-false, cond_true, le-ltb, lt-ltb}
+use Rattle.std.proofs.lemmas.Bool.{cases_eq, cases_lt, cond-false, cond-true, le-ltb, lt-ltb}
 use Rattle.board.proofs.Closes.{mul_next}
 use Rattle.board.proofs.Slotwise.{each_set}
 use Rattle.board.specs.Fits.{Lasting, Lasts, Whole}
@@ -77,7 +77,7 @@ module _ (rule : Meaning) (law : WithinShare rule) (k : Action) (c : ℕ) (r : R
   opening = elim (cases_lt k.arrival b) [
     | inl l ↦
         let e = lt-ltb k.arrival b l in
-        let same : first b a ≡ opened rule c k = λ i. first (sym (cond_true (ltb k.arrival b) b (b + k.period) e) i) (sym (cond_true (ltb k.arrival b) a k.limit e) i) in
+        let same : first b a ≡ opened rule c k = λ i. first (sym (cond-true (ltb k.arrival b) b (b + k.period) e) i) (sym (cond-true (ltb k.arrival b) a k.limit e) i) in
         subst (Opened k.arrival) same (before l)
     | inr l ↦
         let e = le-ltb k.arrival b l in

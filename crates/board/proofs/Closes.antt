@@ -1,6 +1,6 @@
 -- What closing does to a slot.
 use Rattle.std.proofs.Common.{◌≡◌, ℕ, suc, ◌+◌, ◌-◌, ◌*◌, ◌<◌, ◌≤◌, min, true, false, cond, not, eqb, ltb, ◌⊎◌, List, get_or, Some, None, Option, sym, refl, ap, ◌∙◌, subst, inl, inr, mul-suc, arith}
-use Rattle.std.proofs.lemmas.Bool.{cases_eq, cond_true, cond-false, and_from, and_left, and_right, not_from_true, not_from_false, eq-eqb, ne_eqb, lt-ltb, le-ltb}
+use Rattle.std.proofs.lemmas.Bool.{cases_eq, cond-true, cond-false, and_from, and_left, and_right, not_from_true, not_from_false, eq-eqb, ne_eqb, lt-ltb, le-ltb}
 use Rattle.slots.specs.declared.slot.Work.{Work}
 use Rattle.slots.specs.declared.slot.Slot.{Slot}
 use Rattle.slots.specs.declared.slot.Slot.TheVariants.{Absent, Resting, Working}
@@ -37,13 +37,13 @@ lasts_on t w f u n =
 
 module _ (t : ℕ) (w : Work) (at : w.end ≡ t) where
   pub rest_is : w.left ≡ 0 → closed t (Working w) ≡ Resting w.cap
-  rest_is z = cond_true (eqb w.end t) _ _ (eq-eqb w.end t at) ∙ cond_true (eqb w.left 0) _ _ (eq-eqb w.left 0 z)
+  rest_is z = cond-true (eqb w.end t) _ _ (eq-eqb w.end t at) ∙ cond-true (eqb w.left 0) _ _ (eq-eqb w.left 0 z)
 
   pub next_is : (w.left ≡ 0 → ⊥) → closed t (Working w) ≡ Working (renewed w)
-  next_is z = cond_true (eqb w.end t) _ _ (eq-eqb w.end t at) ∙ cond-false (eqb w.left 0) _ _ (ne_eqb w.left 0 z)
+  next_is z = cond-true (eqb w.end t) _ _ (eq-eqb w.end t at) ∙ cond-false (eqb w.left 0) _ _ (ne_eqb w.left 0 z)
 
   closing_is : w.unserved ≡ 0 → closing t (Working w) ≡ cond (eqb w.left 0) Rests (Next (w.end + w.period))
-  closing_is u = cond_true (eqb w.end t) _ _ (eq-eqb w.end t at) ∙ cond-false (ltb 0 w.unserved) _ _ (le-ltb 0 w.unserved (omega arith))
+  closing_is u = cond-true (eqb w.end t) _ _ (eq-eqb w.end t at) ∙ cond-false (ltb 0 w.unserved) _ _ (le-ltb 0 w.unserved (omega arith))
 
 -- the slot stays as it is
 pub off_closed : (t : ℕ) (x : Slot) → (end_at x ≡ Some t → ⊥) → closed t x ≡ x
@@ -103,7 +103,7 @@ closes t (Working w) f h =
       | inl z ↦
           let c = rest_is t w at z in
           inl (record {
-            is = closing_is t w at u ∙ cond_true (eqb w.left 0) _ _ (eq-eqb w.left 0 z);
+            is = closing_is t w at u ∙ cond-true (eqb w.left 0) _ _ (eq-eqb w.left 0 z);
             calendar = ap end_at c;
             ready = ap wait_at c;
             before = none;
@@ -121,7 +121,7 @@ closes t (Working w) f h =
             end = w.end + w.period;
             is = closing_is t w at u ∙ cond-false (eqb w.left 0) _ _ (ne_eqb w.left 0 z);
             calendar = ap end_at c;
-            ready = ap wait_at c ∙ cond_true (ltb 0 (min w.limit w.left)) (Some (w.end + w.period)) None (lt-ltb 0 (min w.limit w.left) (omega arith));
+            ready = ap wait_at c ∙ cond-true (ltb 0 (min w.limit w.left)) (Some (w.end + w.period)) None (lt-ltb 0 (min w.limit w.left) (omega arith));
             before = none;
             begins = and_from (eqb w.end t) (not (eqb w.left 0)) (eq-eqb w.end t at) (not_from_false (eqb w.left 0) (ne_eqb w.left 0 z));
             stays = and_right (eqb w.end t) (eqb w.left 0) (ne_eqb w.left 0 z);

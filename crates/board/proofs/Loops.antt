@@ -7,7 +7,7 @@ use Rattle.slots.specs.declared.slot.Slot.TheVariants.{Absent, Resting, Working}
 use Rattle.slots.specs.Slots.{closed, late, total}
 use Rattle.slots.proofs.Places.{mask_none}
 use Rattle.slots.proofs.Totals.{total_set}
-use Rattle.std.proofs.ByRecursion.{AllFrom_get_or}
+use Rattle.std.proofs.ByRecursion.{All-from_get_or}
 use Rattle.bits.specs.Words.{bit}
 use Rattle.slots.specs.Steps.{ends, goes_on, mask}
 use Rattle.bits.proofs.Bits.{bit_below, bit_of_zero}
@@ -146,4 +146,4 @@ module _ (t : ℕ) (xs ys : List Slot) (r e : ℕ) (m : Midway t xs ys r e) wher
     midway_done = marked_end (ends t) xs ys e refl sized m.done_low (λ j. off_ends t (get_or ys j Absent) (off j)) m.done
 
 pub none_late : (t : ℕ) (xs : List Slot) → AllFit t xs → 0 ≡ mask (late t) xs
-none_late t xs f = sym (mask_none (late t) xs (AllFrom_get_or (λ x. late t x ≡ false) xs Absent (λ i _. fit_late t (get_or xs i Absent) (f i))))
+none_late t xs f = sym (mask_none (late t) xs (All-from_get_or (λ x. late t x ≡ false) xs Absent (λ i _. fit_late t (get_or xs i Absent) (f i))))

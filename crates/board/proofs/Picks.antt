@@ -1,8 +1,8 @@
 -- The first entry of the ready queue is the slot to serve.
 use Rattle.std.proofs.Common.{◌≡◌, ℕ, suc, ◌-◌, ◌<◌, ◌≤◌, true, false, ltb, List, get_or, set, Some, None, sym, refl, ap, ◌∙◌, inl, inr, arith}
 use Rattle.limits.specs.Ranges.{horizon}
-use Rattle.std.proofs.lemmas.Bool.{cases_Bool, cond_true, cond-false, both_ways, cases_order, lt-ltb, le-ltb}
-use Rattle.std.proofs.ByRecursion.{AllFrom_get_or}
+use Rattle.std.proofs.lemmas.Bool.{cases_Bool, cond-true, cond-false, both_ways, cases_order, lt-ltb, le-ltb}
+use Rattle.std.proofs.ByRecursion.{All-from_get_or}
 use Rattle.queues.specs.declared.entry.Entry.{Entry}
 use Rattle.queues.specs.declared.queue.Queue.{Ghosts}
 use Rattle.queues.specs.Dues.{First}
@@ -19,14 +19,14 @@ pub wait_is : (x : Slot) (t : ℕ) → wait_at x ≡ Some t → (waits x ≡ tru
 wait_is Absent t h = absurd (clash refl h)
 wait_is (Resting c) t h = absurd (clash refl h)
 wait_is (Working w) t h = elim (cases_Bool (ltb 0 w.unserved)) [
-  | inl e ↦ let q = cond_true (ltb 0 w.unserved) (Some w.end) None e in let s : w.end ≡ t = cc in (e, s, ap Some s)
+  | inl e ↦ let q = cond-true (ltb 0 w.unserved) (Some w.end) None e in let s : w.end ≡ t = cc in (e, s, ap Some s)
   | inr e ↦ absurd (clash (cond-false (ltb 0 w.unserved) (Some w.end) None e) h)
 ]
 
 pub wait_to : (x : Slot) → waits x ≡ true → wait_at x ≡ Some (end_of x)
 wait_to Absent h = absurd (both_ways false refl h)
 wait_to (Resting c) h = absurd (both_ways false refl h)
-wait_to (Working w) h = cond_true (ltb 0 w.unserved) (Some w.end) None h
+wait_to (Working w) h = cond-true (ltb 0 w.unserved) (Some w.end) None h
 
 wait_none : (x : Slot) → wait_at x ≡ None → waits x ≡ false
 wait_none x h = elim (cases_Bool (waits x)) [ inl e ↦ absurd (clash h (wait_to x e)) | inr e ↦ e ]
@@ -39,7 +39,7 @@ pub record Ready (xs : List Slot) (e : Entry) : Type 0 where
 
 module _ {X Y : Type 0} {q : Ghosts X} {c : Ghosts Y} {ready : X} {calendar : Y} {xs : List Slot} (t : Tied q c ready calendar xs) where
   pub none_ready : First (q.due ready) None → Picked xs None
-  none_ready p = AllFrom_get_or (λ s. waits s ≡ false) xs Absent (λ i l. wait_none (get_or xs i Absent) (sym (t.waiting (suc i)) ∙ p (suc i)))
+  none_ready p = All-from_get_or (λ s. waits s ≡ false) xs Absent (λ i l. wait_none (get_or xs i Absent) (sym (t.waiting (suc i)) ∙ p (suc i)))
 
   module _ (e : Entry) (p : First (q.due ready) (Some e)) where
     bounds : (1 ≤ e.server) × (e.server ≤ 64) × (e.instant ≤ horizon)
@@ -62,7 +62,7 @@ module _ {X Y : Type 0} {q : Ghosts X} {c : Ghosts Y} {ready : X} {calendar : Y}
           picked = record {
             within = omega arith;
             waiting = x.0;
-            least = AllFrom_get_or (λ s. waits s ≡ true → end_of (get_or xs (e.server - 1) Absent) ≤ end_of s) xs Absent (λ k l w. let d = p.1 (suc k) (end_of (get_or xs k Absent)) (other k w) in let y = x.1 in omega arith);
+            least = All-from_get_or (λ s. waits s ≡ true → end_of (get_or xs (e.server - 1) Absent) ≤ end_of s) xs Absent (λ k l w. let d = p.1 (suc k) (end_of (get_or xs k Absent)) (other k w) in let y = x.1 in omega arith);
             first = λ k l w. let d = p.1 (suc k) (end_of (get_or xs k Absent)) (other k w) in go k l d.0 d.1 x.1;
           };
         }
@@ -101,7 +101,7 @@ pub served_on : (k : ℕ) (x : Slot) → 0 < owed (served_by k x) → wait_at (s
 served_on k Absent h = refl
 served_on k (Resting c) h = refl
 served_on k (Working w) h =
-    cond_true (ltb 0 (w.unserved - k)) (Some w.end) None (lt-ltb 0 (w.unserved - k) h) ∙ sym (cond_true (ltb 0 w.unserved) (Some w.end) None (lt-ltb 0 w.unserved (omega arith)))
+    cond-true (ltb 0 (w.unserved - k)) (Some w.end) None (lt-ltb 0 (w.unserved - k) h) ∙ sym (cond-true (ltb 0 w.unserved) (Some w.end) None (lt-ltb 0 w.unserved (omega arith)))
 
 pub served_owed : (k : ℕ) (x : Slot) → k < owed x → 0 < owed (served_by k x)
 served_owed k Absent l = absurd (omega arith)

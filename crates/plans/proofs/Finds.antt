@@ -2,7 +2,7 @@
 use Rattle.std.proofs.Common.{◌≡◌, ℕ, ◌+◌, ◌<◌, ◌≤◌, cond, eqb, List, length, get_or, drop, Some, None, sym, ap, ◌∙◌}
 use Rattle.plans.specs.Numbers.{numbered}
 use Rattle.std.proofs.lemmas.List.{at_drop_all, at_drop_more, get_or_read}
-use Rattle.std.proofs.lemmas.Bool.{cond-false, cond_true, eq-eqb, ne_eqb}
+use Rattle.std.proofs.lemmas.Bool.{cond-false, cond-true, eq-eqb, ne_eqb}
 
 module _ {T : Type 0} (number : T → ℕ) (n : ℕ) (xs : List T) (i : ℕ) where
   -- what is still to be searched gives what the whole gives
@@ -16,7 +16,7 @@ module _ {T : Type 0} (number : T → ℕ) (n : ℕ) (xs : List T) (i : ℕ) whe
         ∙ ap (λ y. cond (eqb (number y) n) (Some y) (numbered number n (drop (i + 1) xs))) (sym read)
 
     pub found_here : number x ≡ n → Some x ≡ numbered number n xs
-    found_here e = sym (step ∙ cond_true _ _ _ (eq-eqb (number x) n e))
+    found_here e = sym (step ∙ cond-true _ _ _ (eq-eqb (number x) n e))
 
     pub found_later : (number x ≡ n → ⊥) → numbered number n (drop (i + 1) xs) ≡ numbered number n xs
     found_later e = sym (step ∙ cond-false _ _ _ (ne_eqb (number x) n e))

@@ -15,7 +15,7 @@ use Rattle.plans.specs.declared.record.Record.{Record}
 use Rattle.plans.specs.declared.server.Server.{Server}
 use Rattle.limits.proofs.Passed.{none_refuse}
 use Rattle.std.proofs.lemmas.List.FromFn.{length-map-range_with_len, map-range_with_len_more}
-use Rattle.std.proofs.lemmas.Bool.{and_from, and_parts, cond_true, eqb-true, le-leb, leb-true, not_from_false, not_from_true}
+use Rattle.std.proofs.lemmas.Bool.{and_from, and_parts, cond-true, eqb-true, le-leb, leb-true, not_from_false, not_from_true}
 use Rattle.std.specs.List.{flat_map}
 
 -- the records before the place are in order, and those after the head are the servers'
@@ -46,7 +46,7 @@ module _ (bytes : List ℕ) where
       record {
         inside = omega (arith, size.least);
         before = λ j l. absurd (omega arith);
-        here = subst (λ p. check (records bytes p) (record_at bytes p) ≡ Some f.refusal) at (cond_true _ _ _ (not_from_false _ h) ∙ ap (λ w. Some w) why);
+        here = subst (λ p. check (records bytes p) (record_at bytes p) ≡ Some f.refusal) at (cond-true _ _ _ (not_from_false _ h) ∙ ap (λ w. Some w) why);
         layer = e ∙ (λ i. plan_fault_of (why i) (at i));
       }
 

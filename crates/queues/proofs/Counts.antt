@@ -1,7 +1,7 @@
 -- Counts of entries.
 use Rattle.std.proofs.Common.{◌≡◌, ℕ, zero, suc, ◌+◌, ◌-◌, ◌<◌, ◌≤◌, cond, eqb, Some, None, Option, sym, refl, ap, ◌∙◌, inl, inr, arith}
 use Rattle.queues.specs.Sizes.{weight, size}
-use Rattle.std.proofs.lemmas.Bool.{cases_eq, eq-eqb, ne_eqb, cond_true, cond-false}
+use Rattle.std.proofs.lemmas.Bool.{cases_eq, eq-eqb, ne_eqb, cond-true, cond-false}
 
 pub weight_le : (o : Option ℕ) → weight o ≤ 1
 weight_le None = omega arith
@@ -41,7 +41,7 @@ abbrev with : (ℕ → Option ℕ) → ℕ → ℕ → Option ℕ
 with f s k = cond (eqb k s) (Some 0) (f k)
 
 with_here : (f : ℕ → Option ℕ) (s : ℕ) → with f s s ≡ Some 0
-with_here f s = cond_true (eqb s s) (Some 0) (f s) (eq-eqb s s refl)
+with_here f s = cond-true (eqb s s) (Some 0) (f s) (eq-eqb s s refl)
 
 with_else : (f : ℕ → Option ℕ) (s k : ℕ) → (k ≡ s → ⊥) → with f s k ≡ f k
 with_else f s k u = cond-false (eqb k s) (Some 0) (f k) (ne_eqb k s u)

@@ -13,12 +13,12 @@ use Rattle.queues.specs.declared.entry.Entry.{Entry}
 use Rattle.std.proofs.lemmas.List.Sorted.{IsPermutation-sym, sum_by-IsPermutation}
 use Rattle.std.proofs.ByRecursion.{has_shuffled, all_shuffled}
 use Rattle.std.proofs.lemmas.List.Sums.{sum_by-cons, get_or-le-sum_by}
-use Rattle.std.proofs.lemmas.Bool.{eq-eqb, ne_eqb, cases_eq, cond_true, cond-false}
+use Rattle.std.proofs.lemmas.Bool.{eq-eqb, ne_eqb, cases_eq, cond-true, cond-false}
 use Rattle.std.specs.List.Sorted.{IsPermutation}
 use Rattle.std.specs.List.{ContainsAt as Has, AllByRecursion as All}
 
 one_hit : (s : ℕ) (e : Entry) → e.server ≡ s → one s e ≡ 1
-one_hit s e u = cond_true (eqb e.server s) 1 0 (eq-eqb e.server s u)
+one_hit s e u = cond-true (eqb e.server s) 1 0 (eq-eqb e.server s u)
 
 one_miss : (s : ℕ) (e : Entry) → (e.server ≡ s → ⊥) → one s e ≡ 0
 one_miss s e u = cond-false (eqb e.server s) 1 0 (ne_eqb e.server s u)

@@ -6,7 +6,7 @@ use Rattle.queues.specs.Lists.{sought}
 use Rattle.queues.specs.Rows.{Bounded, found}
 use Rattle.queues.specs.declared.entry.Entry.{Entry}
 use Rattle.std.proofs.ByRecursion.{all-has}
-use Rattle.std.proofs.lemmas.Bool.{cases_eq, cond-false, cond_true, eq-eqb, ne_eqb}
+use Rattle.std.proofs.lemmas.Bool.{cases_eq, cond-false, cond-true, eq-eqb, ne_eqb}
 use Rattle.std.specs.List.{ContainsAt as Has, AllByRecursion as All}
 use Rattle.std.proofs.Common.{inl, inr, sym, ◌∙◌, arith}
 
@@ -23,7 +23,7 @@ clash {o} {t} p q = let z : ◌≡◌ {A = ℕ} 0 1 = cc in omega arith
 
 -- the last of a row is its server's
 pub found_hit : (xs : List Entry) (n s : ℕ) → sv xs n ≡ s → found xs (suc n) s ≡ Some (tm xs n)
-found_hit xs n s e = cond_true (sv xs n == s) (Some (tm xs n)) (found xs n s) (eq-eqb (sv xs n) s e)
+found_hit xs n s e = cond-true (sv xs n == s) (Some (tm xs n)) (found xs n s) (eq-eqb (sv xs n) s e)
 
 -- and says nothing of another server
 pub found_miss : (xs : List Entry) (n s : ℕ) → (sv xs n ≢ s) → found xs (suc n) s ≡ found xs n s
@@ -46,7 +46,7 @@ found_within xs n h k t e =
 
 -- the first of a list is its server's
 pub sought_hit : (e : Entry) (es : List Entry) (s : ℕ) → e.server ≡ s → sought (e ∷ es) s ≡ Some e.instant
-sought_hit e es s u = cond_true (e.server == s) (Some e.instant) (sought es s) (eq-eqb e.server s u)
+sought_hit e es s u = cond-true (e.server == s) (Some e.instant) (sought es s) (eq-eqb e.server s u)
 
 -- and says nothing of another server
 pub sought_miss : (e : Entry) (es : List Entry) (s : ℕ) → (e.server ≢ s) → sought (e ∷ es) s ≡ sought es s

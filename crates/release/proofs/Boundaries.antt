@@ -1,9 +1,9 @@
 -- Where the boundaries of an action lie, and which of them is its end.
-use Rattle.std.proofs.Common.{◌≡◌, ℕ, ◌+◌, ◌-◌, ◌*◌, ◌/◌, ◌<◌, ◌≤◌, ltb, ◌⊎◌, sym, ap, ◌∙◌, ⊎_elim, mul-le-mul_right, mul_assoc, mul_comm, mul-le-mul_left, le_of_mul_le_mul_right, arith}
+use Rattle.std.proofs.Common.{◌≡◌, ℕ, ◌+◌, ◌-◌, ◌*◌, ◌/◌, ◌<◌, ◌≤◌, ltb, ◌⊎◌, sym, ap, ◌∙◌, ⊎_elim, mul-le-mul_right, mul_assoc, mul_comm, mul-le-mul_left, le_of_mul-le-mul_right, arith}
 use Rattle.release.proofs.Ceils.{ceil_below, ceil_from, ceil_least}
 use Rattle.release.specs.Actions.{Action, Completes, Meaning, boundary, ceil, first_amount_of, first_boundary_of, forecast}
 use Rattle.release.specs.Rules.{WithinShare}
-use Rattle.std.proofs.lemmas.Bool.{cases_eq, cases_lt, cases_order, cond_both, cond-false, cond_true, le-ltb, lt-ltb}
+use Rattle.std.proofs.lemmas.Bool.{cases_eq, cases_lt, cases_order, cond_both, cond-false, cond-true, le-ltb, lt-ltb}
 use native.Mathlib.Nat.{le_of_mul-le-mul_left, mul-div-le}
 
 module _ (k : Action) (h : 1 ≤ k.period) where
@@ -21,7 +21,7 @@ first_none rule k h = cond-false _ _ _ (le-ltb k.arrival (first_boundary_of k) h
 
 pub first_some : (rule : Meaning) (k : Action) → k.arrival < first_boundary_of k → first_amount_of rule k ≡ rule k.limit k.period k.arrival (first_boundary_of k)
 unfolding first_amount_of
-first_some rule k h = cond_true _ _ _ (lt-ltb k.arrival (first_boundary_of k) h)
+first_some rule k h = cond-true _ _ _ (lt-ltb k.arrival (first_boundary_of k) h)
 
 -- the first amount keeps the law
 pub first_law : (rule : Meaning) → WithinShare rule → (k : Action) → first_amount_of rule k * k.period ≤ k.limit * (first_boundary_of k - k.arrival)
@@ -140,7 +140,7 @@ fit a p l t c u h law rate =
     let x : (u * a) * p ≤ u * (l * t) = omega (arith, mul-le-mul_left u law, mul_assoc u a p) in
     let y : u * (l * t) ≤ (c * p) * t = omega (arith, mul-le-mul_right t rate, ap (λ n. n * t) (mul_comm l u), mul_assoc u l t) in
     let z : (c * p) * t ≡ (c * t) * p = mul_assoc c p t ∙ ap (λ n. c * n) (mul_comm p t) ∙ sym (mul_assoc c t p) in
-    le_of_mul_le_mul_right (omega arith) h
+    le_of_mul-le-mul_right (omega arith) h
 
 pub first_fits : (rule : Meaning) → WithinShare rule → (k : Action) (cap' u : ℕ) → 1 ≤ k.period → k.limit * u ≤ cap' * k.period → u * first_amount_of rule k ≤ cap' * (first_boundary_of k - k.arrival)
 first_fits rule law k cap' u h rate = fit (first_amount_of rule k) k.period k.limit (first_boundary_of k - k.arrival) cap' u h (first_law rule law k) rate

@@ -22,7 +22,7 @@ use Rattle.share.specs.declared.calls.Call.{Call}
 use Rattle.share.specs.declared.calls.Call.TheVariants.{Admit, Leave, Start, Tick, Advance}
 use Rattle.slots.specs.Checks.{start_check}
 use Rattle.slots.specs.Steps.{Model, ticked}
-use Rattle.std.proofs.lemmas.Bool.{and_left, and_parts, both_ways, cases_Bool, cases_lt, cond-false, cond_true, eq-eqb, eqb-true, ltb-false}
+use Rattle.std.proofs.lemmas.Bool.{and_left, and_parts, both_ways, cases_Bool, cases_lt, cond-false, cond-true, eq-eqb, eqb-true, ltb-false}
 
 -- what the list of checks says of an accepted start
 pub record Granted (rule : Meaning) (p : Trace) (s : ℕ) (k : Action) (a : Answer) : Type 0 where
@@ -189,8 +189,8 @@ module _ (rule : Meaning) (s : ℕ) (k : Action) (r : Ranged k) where
     begun p at =
         let z = eq-eqb s s refl in
         record {
-          work = cond_true _ _ _ z;
-          mine = cond_true _ _ _ z ∙ ap (λ (t : ℕ). action t k.load k.limit k.period) at;
+          work = cond-true _ _ _ z;
+          mine = cond-true _ _ _ z ∙ ap (λ (t : ℕ). action t k.load k.limit k.period) at;
           none = count_empty (finishes s) p k.arrival (clock_of p + 0) (omega arith);
           paid = λ j b. at_once p at j (omega arith);
         }

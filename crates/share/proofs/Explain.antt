@@ -28,7 +28,7 @@ use Rattle.slots.specs.declared.slot.Slot.{Slot}
 use Rattle.slots.specs.declared.slot.Slot.TheVariants.{Absent, Resting, Working}
 use Rattle.std.proofs.lemmas.List.{get_or-set_other, get_or-set_same, length-set}
 use Rattle.std.proofs.lemmas.List.Sums.{sum_by-cons}
-use Rattle.std.proofs.lemmas.Bool.{both_ways, cases_eq, cond_true, eq-eqb, ltb-false, ne_eqb, not-false}
+use Rattle.std.proofs.lemmas.Bool.{both_ways, cases_eq, cond-true, eq-eqb, ltb-false, ne_eqb, not-false}
 use Rattle.std.specs.List.{range_with_len}
 
 -- the slot of the server s; server 0 has none
@@ -149,7 +149,7 @@ module _ (rule : Meaning) (p : Trace) (xs : List Slot) (e : Explains rule p xs) 
       let z = eq-eqb s s refl in
       put_keeps rule p xs e (Admit s c) Done (add-zero (clock_of p)) s range.0 range.1 (Resting c)
       (admitting (clock_of p) xs (s - 1) (omega (arith, e.sized)) e.sound c none (cap_none c b.0).0 (ltb-false unit (total cap_of xs + c) f.0))
-      (cond_true _ _ _ z, cond_true _ _ _ z, sym (tells rule p xs e s range.0).1 ∙ ap works none)
+      (cond-true _ _ _ z, cond-true _ _ _ z, sym (tells rule p xs e s range.0).1 ∙ ap works none)
       (λ t ne. seen_same p (Admit s c) Done t refl (record { admit = ne_eqb s t ne; leave = refl; start = refl }))
 
   pub admit_step : (s c : ℕ) → Stepped rule p m (Admit s c)
@@ -175,7 +175,7 @@ module _ (rule : Meaning) (p : Trace) (xs : List Slot) (e : Explains rule p xs) 
       let z = eq-eqb s s refl in
       put_keeps rule p xs e (Leave s) Done (add-zero (clock_of p)) s range.0 range.1 Absent
       (leaving (clock_of p) xs (s - 1) (omega (arith, e.sized)) e.sound (cap_of x) (resting_is x (not-false (present x) b.0) d.0))
-      (cond_true _ _ _ z, cond_true _ _ _ z, sym (tells rule p xs e s range.0).1 ∙ d.0)
+      (cond-true _ _ _ z, cond-true _ _ _ z, sym (tells rule p xs e s range.0).1 ∙ d.0)
       (λ t ne. seen_same p (Leave s) Done t refl (record { admit = refl; leave = ne_eqb s t ne; start = refl }))
 
   pub leave_step : (s : ℕ) → Stepped rule p m (Leave s)

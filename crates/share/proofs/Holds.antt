@@ -16,7 +16,7 @@ use Rattle.share.specs.declared.calls.Answer.TheVariants.{Started, Ticked}
 use Rattle.share.specs.declared.calls.Call.{Call}
 use Rattle.share.specs.declared.calls.Call.TheVariants.{Admit, Leave, Start, Tick, Advance}
 use Rattle.slots.specs.Steps.{Model, ticked}
-use Rattle.std.proofs.lemmas.Bool.{and_parts, both_ways, cases_Bool, cases_lt, cases_order, cond-false, cond_true, eqb-true}
+use Rattle.std.proofs.lemmas.Bool.{and_parts, both_ways, cases_Bool, cases_lt, cases_order, cond-false, cond-true, eqb-true}
 
 -- who is at work began an action that has not ended
 abbrev AtIt : Trace → ℕ → Type 0
@@ -45,7 +45,7 @@ module _ (rule : Meaning) (law : WithinShare rule) where
       (λ (h : starts s c a ≡ true). began_now rule p s c a (by_checks rule law p c a m l) h)
       (λ (h : starts s c a ≡ false).
       ⊎_elim
-      (λ (g : (timed a && finishes s a) ≡ true). absurd (both_ways _ (cond-false _ _ _ h ∙ cond_true _ _ _ g) w))
+      (λ (g : (timed a && finishes s a) ≡ true). absurd (both_ways _ (cond-false _ _ _ h ∙ cond-true _ _ _ g) w))
       (λ (g : (timed a && finishes s a) ≡ false).
       let r = at_it p l.0 l.1 s (sym (cond-false _ _ _ h ∙ cond-false _ _ _ g) ∙ w) in
       let b = r.1.1 in

@@ -10,7 +10,7 @@ use Rattle.share.specs.declared.calls.Answer.TheVariants.{Started, Ticked}
 use Rattle.share.specs.declared.calls.Call.{Call}
 use Rattle.share.specs.declared.calls.Call.TheVariants.{Admit, Leave, Start, Tick, Advance}
 use Rattle.slots.specs.declared.sets.Ticked.{Ticked as OneTick}
-use Rattle.std.proofs.lemmas.Bool.{and_left, cases_Bool, cond_both, cond-false, cond_true, eq-eqb}
+use Rattle.std.proofs.lemmas.Bool.{and_left, cases_Bool, cond_both, cond-false, cond-true, eq-eqb}
 
 -- the action that a call at the instant t asks for
 abbrev pub action_in : ℕ → Call → Action
@@ -80,7 +80,7 @@ module _ (p : Trace) (s : ℕ) (t : OneTick) where
       let A = (latest p s).arrival in
       let past = count_past (serves s) p A (clock_of p + 1) (clock_of p) (omega arith) (omega arith) in
       ⊎_elim
-      (λ (h : serves s (Ticked t) ≡ true). count_one (serves s) p Tick (Ticked t) A (clock_of p + 1) refl h (arrived p s) (omega arith) ∙ ap (λ n. n + 1) past ∙ sym (cond_true _ _ _ h))
+      (λ (h : serves s (Ticked t) ≡ true). count_one (serves s) p Tick (Ticked t) A (clock_of p + 1) refl h (arrived p s) (omega arith) ∙ ap (λ n. n + 1) past ∙ sym (cond-true _ _ _ h))
       (λ (h : serves s (Ticked t) ≡ false). count_idle (serves s) p Tick (Ticked t) A (clock_of p + 1) h ∙ past ∙ sym (cond-false _ _ _ h))
       (cases_Bool (serves s (Ticked t)))
 

@@ -1,8 +1,8 @@
 -- The stretches that end at an instant are closed.
 use Rattle.std.proofs.Common.{◌≡◌, ℕ, ◌+◌, ◌-◌, ◌*◌, ◌≤◌, min, false, cond, ◌&&◌, eqb, ltb, leb, List, [], ◌∷◌, map, refl, ap, inl, inr, mul-add, arith}
 use Rattle.std.specs.List.{AllByRecursion as All}
-use Rattle.std.proofs.lemmas.Bool.{cond_both, cond_true, leb-true, le-leb, ltb-true, lt-ltb, both_ways, cases_lt, cases_Bool, eqb-true, eqb-false, and_parts, and_from, eq-eqb}
-use Rattle.std.proofs.ByRecursion.{AllWeaker}
+use Rattle.std.proofs.lemmas.Bool.{cond_both, cond-true, leb-true, le-leb, ltb-true, lt-ltb, both_ways, cases_lt, cases_Bool, eqb-true, eqb-false, and_parts, and_from, eq-eqb}
+use Rattle.std.proofs.ByRecursion.{All-weaker}
 use Rattle.slots.specs.declared.slot.Work.{Work}
 use Rattle.slots.specs.declared.slot.Slot.{Slot}
 use Rattle.slots.specs.declared.slot.Slot.TheVariants.{Absent, Resting, Working}
@@ -53,7 +53,7 @@ closed_balance t d l (Working w) h =
     (λ s. demand d s + w.cap * (d - (t + 1)) ≤ demand d (Working w) + busy s * (d - (t + 1)))
     (λ e. let at = eqb-true w.end (t + 1) e in
     let le : w.end ≤ d = omega arith in
-    let old = cond_true (leb w.end d) (unit * w.unserved + w.cap * (d - w.end)) 0 (le-leb w.end d le) in
+    let old = cond-true (leb w.end d) (unit * w.unserved + w.cap * (d - w.end)) 0 (le-leb w.end d le) in
     let same = ap (λ n. w.cap * (d - n)) at in
     cond_both (eqb w.left 0) (Resting w.cap) (Working (renewed w))
     (λ s. demand d s + w.cap * (d - (t + 1)) ≤ demand d (Working w) + busy s * (d - (t + 1)))
@@ -78,7 +78,7 @@ on_time t (Working w) h =
           let at = eqb-true w.end t p.0 in
           let u = ltb-true 0 w.unserved p.1 in
           let le : w.end ≤ t = omega arith in
-          let old = cond_true (leb w.end t) (unit * w.unserved + w.cap * (t - w.end)) 0 (le-leb w.end t le) in
+          let old = cond-true (leb w.end t) (unit * w.unserved + w.cap * (t - w.end)) 0 (le-leb w.end t le) in
           absurd (omega arith)
       | inr e ↦ e
     ]
@@ -88,7 +88,7 @@ none_late t xs b =
     let q = b t (omega arith) in
     let z : t - t ≡ 0 = omega arith in
     let n : total (demand t) xs ≡ 0 = omega (arith, ap (λ n. total busy xs * n) z) in
-    AllWeaker (λ s. demand t s ≡ 0) (λ s. late t s ≡ false) (on_time t) xs (total_none (demand t) xs n)
+    All-weaker (λ s. demand t s ≡ 0) (λ s. late t s ≡ false) (on_time t) xs (total_none (demand t) xs n)
 
 -- service leaves nothing owed in a stretch that ends
 pub nothing_owed : (t : ℕ) (w : Work) → late t (Working w) ≡ false → w.end ≡ t → w.unserved ≡ 0

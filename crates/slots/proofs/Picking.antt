@@ -2,7 +2,7 @@
 use Rattle.std.proofs.Common.{◌≡◌, ℕ, zero, suc, ◌<◌, ◌≤◌, true, false, ◌&&◌, leb, List, [], ◌∷◌, get_or, Some, None, Option, refl, ap, inl, inr, arith}
 use Rattle.std.specs.List.{AllByRecursion as All}
 use Rattle.std.proofs.lemmas.Bool.{cond_both, and_parts, and_cases, leb-true, leb-false, both_ways, cases_order}
-use Rattle.std.proofs.ByRecursion.{AllWeaker, All-get_or}
+use Rattle.std.proofs.ByRecursion.{All-weaker, All-get_or}
 use Rattle.slots.specs.declared.slot.Slot.{Slot}
 use Rattle.slots.specs.declared.slot.Slot.TheVariants.{Absent}
 use Rattle.slots.specs.Slots.{pick, better, Picked, Chosen, waits, end_of}
@@ -15,12 +15,12 @@ behind s n e w =
 step : (s : Slot) (ss : List Slot) (o : Option ℕ) → Picked ss o → Picked (s ∷ ss) (better s ss o)
 step s ss None h =
     cond_both (waits s) (Some 0) None (λ o. Picked (s ∷ ss) o)
-    (λ e. record { within = omega arith; waiting = e; least = ((λ _. omega arith), AllWeaker (λ x. waits x ≡ false) (λ x. waits x ≡ true → end_of s ≤ end_of x) (λ x f w. absurd (both_ways (waits x) f w)) ss h); first = λ k l w. omega arith })
+    (λ e. record { within = omega arith; waiting = e; least = ((λ _. omega arith), All-weaker (λ x. waits x ≡ false) (λ x. waits x ≡ true → end_of s ≤ end_of x) (λ x f w. absurd (both_ways (waits x) f w)) ss h); first = λ k l w. omega arith })
     (λ e. (e, h))
 step s ss (Some i) h =
     cond_both (waits s && leb (end_of s) (end_of (get_or ss i Absent))) (Some 0) (Some (suc i)) (λ o. Picked (s ∷ ss) o)
     (λ e. let p = and_parts (waits s) (leb (end_of s) (end_of (get_or ss i Absent))) e in let l = leb-true (end_of s) (end_of (get_or ss i Absent)) p.1 in
-    record { within = omega arith; waiting = p.0; least = ((λ _. omega arith), AllWeaker (λ x. waits x ≡ true → end_of (get_or ss i Absent) ≤ end_of x) (λ x. waits x ≡ true → end_of s ≤ end_of x) (λ x f w. let q = f w in omega arith) ss h.least); first = λ k l w. omega arith })
+    record { within = omega arith; waiting = p.0; least = ((λ _. omega arith), All-weaker (λ x. waits x ≡ true → end_of (get_or ss i Absent) ≤ end_of x) (λ x. waits x ≡ true → end_of s ≤ end_of x) (λ x f w. let q = f w in omega arith) ss h.least); first = λ k l w. omega arith })
     (λ e. record { within = let w = h.within in omega arith; waiting = h.waiting; least = ((λ w. let q = behind s (end_of (get_or ss i Absent)) e w in omega arith), h.least); first = first s ss i (behind s (end_of (get_or ss i Absent)) e) h.first })
   where
     first : (s : Slot) (ss : List Slot) (i : ℕ) → (waits s ≡ true → end_of (get_or ss i Absent) < end_of s) → ((k : ℕ) → k < i → waits (get_or ss k Absent) ≡ true → end_of (get_or ss i Absent) < end_of (get_or ss k Absent)) → (k : ℕ) → k < suc i → waits (get_or (s ∷ ss) k Absent) ≡ true → end_of (get_or ss i Absent) < end_of (get_or (s ∷ ss) k Absent)

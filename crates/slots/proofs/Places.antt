@@ -2,7 +2,7 @@
 use Rattle.std.proofs.Common.{◌≡◌, ℕ, zero, suc, ◌+◌, ◌-◌, ◌*◌, ◌/◌, ◌%◌, Bool, true, false, cond, eqb, List, [], ◌∷◌, map, length, get_or, set, Some, None, Option, sym, refl, ap, ◌∙◌, subst, ⊎_elim, arith}
 use Rattle.std.specs.List.{AllByRecursion as All}
 use Rattle.std.proofs.lemmas.List.{length-set, get_or-set_same, get_or-set_other}
-use Rattle.std.proofs.lemmas.Bool.{cond_true, cond-false, eqb-true, eq-eqb, ne_eqb, both_ways, cases_eq}
+use Rattle.std.proofs.lemmas.Bool.{cond-true, cond-false, eqb-true, eq-eqb, ne_eqb, both_ways, cases_eq}
 use Rattle.slots.specs.declared.slot.Slot.{Slot}
 use Rattle.slots.specs.declared.slot.Slot.TheVariants.{Absent, Resting, Working}
 use Rattle.slots.specs.Slots.{waits, pick, Picked, served, served_at}
@@ -52,7 +52,7 @@ served_here xs (Some j) i p =
     (λ (e : j + 1 ≡ suc i).
     let same : j ≡ i = omega arith in
     let at : get_or (set xs j (served (get_or xs j Absent))) j Absent ≡ served (get_or xs j Absent) = get_or-set_same xs j (served (get_or xs j Absent)) Absent p.within in
-    subst (λ (n : ℕ). get_or (set xs j (served (get_or xs j Absent))) n Absent ≡ served (get_or xs n Absent)) same at ∙ sym (cond_true _ _ _ (eq-eqb (j + 1) (suc i) e)))
+    subst (λ (n : ℕ). get_or (set xs j (served (get_or xs j Absent))) n Absent ≡ served (get_or xs n Absent)) same at ∙ sym (cond-true _ _ _ (eq-eqb (j + 1) (suc i) e)))
     (λ (e : j + 1 ≡ suc i → ⊥). get_or-set_other xs j i (served (get_or xs j Absent)) Absent (λ (z : i ≡ j). e (omega arith)) ∙ sym (cond-false _ _ _ (ne_eqb (j + 1) (suc i) e)))
     (cases_eq (j + 1) (suc i))
 

@@ -1,8 +1,8 @@
 -- One tick of service.
 use Rattle.std.proofs.Common.{◌≡◌, ℕ, suc, ◌+◌, ◌-◌, ◌*◌, ◌<◌, ◌≤◌, true, false, leb, List, [], ◌∷◌, get_or, Some, None, Option, sym, refl, ◌∙◌, inl, inr, mul-le-mul_left, mul-suc, arith}
 use Rattle.std.specs.List.{AllByRecursion as All}
-use Rattle.std.proofs.lemmas.Bool.{cond_both, cond_true, cond-false, leb-true, le-leb, lt-leb, ltb-true, lt-ltb, both_ways, cases_lt}
-use Rattle.std.proofs.ByRecursion.{AllWeaker, All-set, All-get_or}
+use Rattle.std.proofs.lemmas.Bool.{cond_both, cond-true, cond-false, leb-true, le-leb, lt-leb, ltb-true, lt-ltb, both_ways, cases_lt}
+use Rattle.std.proofs.ByRecursion.{All-weaker, All-set, All-get_or}
 use Rattle.slots.specs.declared.slot.Slot.{Slot}
 use Rattle.slots.specs.declared.slot.Slot.TheVariants.{Absent, Resting, Working}
 use Rattle.limits.specs.Ranges.{unit}
@@ -32,8 +32,8 @@ served_pays d (Resting c) e h = absurd (both_ways false refl e)
 served_pays d (Working w) e h =
     let b = le-leb w.end d h in
     let u = ltb-true 0 w.unserved e in
-    let p = cond_true (leb w.end d) (unit * (w.unserved - 1) + w.cap * (d - w.end)) 0 b in
-    let q = cond_true (leb w.end d) (unit * w.unserved + w.cap * (d - w.end)) 0 b in
+    let p = cond-true (leb w.end d) (unit * (w.unserved - 1) + w.cap * (d - w.end)) 0 b in
+    let q = cond-true (leb w.end d) (unit * w.unserved + w.cap * (d - w.end)) 0 b in
     omega arith
 
 -- before it, it claims nothing
@@ -73,14 +73,14 @@ next k t d h = let e : d - t ≡ suc (d - (t + 1)) = omega arith in rw (e, mul-s
 pub served_bound : (t : ℕ) (xs : List Slot) (o : Option ℕ) → Picked xs o → Sound t xs → Bounded (t + 1) (served_at xs o)
 served_bound t xs None p s d h =
     total_le_mul (λ x. Fine t x × (waits x ≡ true → d < end_of x)) (demand d) busy (d - (t + 1)) (quiet t d) xs
-    (all_both (Fine t) (λ x. waits x ≡ true → d < end_of x) xs s.each (AllWeaker (λ x. waits x ≡ false) (λ x. waits x ≡ true → d < end_of x) (λ x f w. absurd (both_ways (waits x) f w)) xs p))
+    (all_both (Fine t) (λ x. waits x ≡ true → d < end_of x) xs s.each (All-weaker (λ x. waits x ≡ false) (λ x. waits x ≡ true → d < end_of x) (λ x f w. absurd (both_ways (waits x) f w)) xs p))
 served_bound t xs (Some i) p s d h =
     let x = get_or xs i Absent in
     let same = total_set_same busy xs i (served x) Absent p.within (served_busy x) in
     elim (cases_lt d (end_of x)) [
       | inl l ↦
           let q = total_le_mul (λ x. Fine t x × (waits x ≡ true → d < end_of x)) (demand d) busy (d - (t + 1)) (quiet t d) xs
-          (all_both (Fine t) (λ x. waits x ≡ true → d < end_of x) xs s.each (AllWeaker (λ y. waits y ≡ true → end_of x ≤ end_of y) (λ y. waits y ≡ true → d < end_of y) (λ y f w. let g = f w in omega arith) xs p.least)) in
+          (all_both (Fine t) (λ x. waits x ≡ true → d < end_of x) xs s.each (All-weaker (λ y. waits y ≡ true → end_of x ≤ end_of y) (λ y. waits y ≡ true → d < end_of y) (λ y f w. let g = f w in omega arith) xs p.least)) in
           let l' : d < end_of (served x) = rw served_end l in
           let still = total_set_same (demand d) xs i (served x) Absent p.within (early d (served x) l' ∙ sym (early d x l)) in
           rw (same, still) q

@@ -3,8 +3,8 @@ use Rattle.std.proofs.Common.{◌≡◌, ℕ, zero, suc, ◌+◌, ◌-◌, ◌<�
 use lib.Seq.{set-get_or}
 use Rattle.std.specs.List.{AllByRecursion as All}
 use Rattle.std.proofs.lemmas.List.{length-set, get_or-set_same, get_or-set_other}
-use Rattle.std.proofs.ByRecursion.{AllWeaker, All-set, AllFrom_get_or}
-use Rattle.std.proofs.lemmas.Bool.{cond_both, cond_true, cond-false, and_from, and_left, eq-eqb, ltb-true, lt-ltb, ne_eqb, both_ways, cases_Bool, cases_lt, not_from_false}
+use Rattle.std.proofs.ByRecursion.{All-weaker, All-set, All-from_get_or}
+use Rattle.std.proofs.lemmas.Bool.{cond_both, cond-true, cond-false, and_from, and_left, eq-eqb, ltb-true, lt-ltb, ne_eqb, both_ways, cases_Bool, cases_lt, not_from_false}
 use Rattle.slots.specs.declared.slot.Work.{Work}
 use Rattle.slots.specs.declared.slot.Slot.{Slot}
 use Rattle.slots.specs.declared.slot.Slot.TheVariants.{Absent, Resting, Working}
@@ -89,7 +89,7 @@ picked_again b xs (Some i) p h =
         within = omega (arith, length-set xs i (served x), p.within);
         waiting = ap waits is ∙ owed_waits (served x) (omega arith);
         least = rw is (All-set (λ s. waits s ≡ true → end_of (served x) ≤ end_of s) xs i (served x) (λ _. omega arith)
-            (AllWeaker (λ s. waits s ≡ true → end_of x ≤ end_of s) (λ s. waits s ≡ true → end_of (served x) ≤ end_of s) (λ s f w. let g = f w in omega arith) xs p.least));
+            (All-weaker (λ s. waits s ≡ true → end_of x ≤ end_of s) (λ s. waits s ≡ true → end_of (served x) ≤ end_of s) (λ s f w. let g = f w in omega arith) xs p.least));
         first = λ k l. let ne = get_or-set_other xs i k (served x) Absent (omega arith) in rw (is, ne) (λ w. let g = p.first k l w in omega arith);
       },
       rw is (omega arith),
@@ -103,13 +103,13 @@ pub record Calm (m : Model) (o : Option ℕ) (b : ℕ) : Type 0 where
 
 module _ (m : Model) (o : Option ℕ) (b : ℕ) (c : Calm m o (suc (suc b))) where
   wide : All (Far (m.clock + 2)) (serve m.slots)
-  wide = AllWeaker (Far (m.clock + suc (suc b))) (Far (m.clock + 2)) (far_weaker (m.clock + 2) (m.clock + suc (suc b)) (omega arith)) (serve m.slots) (far_serve (m.clock + suc (suc b)) m.slots (pick m.slots) c.far)
+  wide = All-weaker (Far (m.clock + suc (suc b))) (Far (m.clock + 2)) (far_weaker (m.clock + 2) (m.clock + suc (suc b)) (omega arith)) (serve m.slots) (far_serve (m.clock + suc (suc b)) m.slots (pick m.slots) c.far)
 
   pub calm_quiet : (ticked m).sets ≡ nobody
   calm_quiet =
-      let n = AllWeaker (Far (m.clock + 2)) (λ x. (goes_on (m.clock + 1) x ≡ false) × (ends (m.clock + 1) x ≡ false) × (late (m.clock + 1) x ≡ false)) (far_none m.clock) (serve m.slots) wide in
+      let n = All-weaker (Far (m.clock + 2)) (λ x. (goes_on (m.clock + 1) x ≡ false) × (ends (m.clock + 1) x ≡ false) × (late (m.clock + 1) x ≡ false)) (far_none m.clock) (serve m.slots) wide in
       let none : (P : Slot → Bool) → ((x : Slot) → (goes_on (m.clock + 1) x ≡ false) × (ends (m.clock + 1) x ≡ false) × (late (m.clock + 1) x ≡ false) → P x ≡ false) → mask P (serve m.slots) ≡ 0 =
-      λ P f. mask_none P (serve m.slots) (AllWeaker (λ x. (goes_on (m.clock + 1) x ≡ false) × (ends (m.clock + 1) x ≡ false) × (late (m.clock + 1) x ≡ false)) (λ x. P x ≡ false) f (serve m.slots) n) in
+      λ P f. mask_none P (serve m.slots) (All-weaker (λ x. (goes_on (m.clock + 1) x ≡ false) × (ends (m.clock + 1) x ≡ false) × (late (m.clock + 1) x ≡ false)) (λ x. P x ≡ false) f (serve m.slots) n) in
       let r = none (goes_on (m.clock + 1)) (λ x h. h.0) in
       let f = none (ends (m.clock + 1)) (λ x h. h.1) in
       let l = none (late (m.clock + 1)) (λ x h. h.2) in
@@ -299,7 +299,7 @@ stays_next m i e j s h =
     let k = kept_slot (turns j m) i w s.is (omega arith) in
     ⊎_elim
     (λ (b : is_server (number (pick (turns j m).slots)) (suc i) ≡ true).
-    let r : Stays m i e (suc j) = record { work = record { cap = w.cap; end = w.end; unserved = w.unserved - 1; left = w.left - 1; limit = w.limit; period = w.period }; is = k ∙ cond_true _ _ _ b; end = s.end } in r)
+    let r : Stays m i e (suc j) = record { work = record { cap = w.cap; end = w.end; unserved = w.unserved - 1; left = w.left - 1; limit = w.limit; period = w.period }; is = k ∙ cond-true _ _ _ b; end = s.end } in r)
     (λ (b : is_server (number (pick (turns j m).slots)) (suc i) ≡ false).
     let r : Stays m i e (suc j) = record { work = w; is = k ∙ cond-false _ _ _ b; end = s.end } in r)
     (cases_Bool (is_server (number (pick (turns j m).slots)) (suc i)))
@@ -347,7 +347,7 @@ module _ (m : Model) (n k : ℕ) (s : Sound m.clock m.slots) (a : Allowed m n k)
       (cases_lt w.end (m.clock + k))
 
   spread : All (Far (m.clock + k)) m.slots
-  spread = AllFrom_get_or (Far (m.clock + k)) m.slots Absent (λ i _. far_at i (get_or m.slots i Absent) refl (all_at (Fine m.clock) tt m.slots s.each i))
+  spread = All-from_get_or (Far (m.clock + k)) m.slots Absent (λ i _. far_at i (get_or m.slots i Absent) refl (all_at (Fine m.clock) tt m.slots s.each i))
 
   -- the slot to serve, as it is served
   module _ (i : ℕ) (o : pick m.slots ≡ Some i) (w : Work) (is : get_or m.slots i Absent ≡ Working w) (short : w.unserved < k) where
@@ -366,7 +366,7 @@ module _ (m : Model) (n k : ℕ) (s : Sound m.clock m.slots) (a : Allowed m n k)
         let un = r.3 in
         let c = turns_clock j m in
         let late = ends_late in
-        let next = kept_slot (turns j m) i v r.1 (omega arith) ∙ cond_true _ _ _ (hit j (omega arith)) in
+        let next = kept_slot (turns j m) i v r.1 (omega arith) ∙ cond-true _ _ _ (hit j (omega arith)) in
         (record { cap = v.cap; end = v.end; unserved = v.unserved - 1; left = v.left - 1; limit = v.limit; period = v.period }, next, en, omega arith)
 
     never : ⊥

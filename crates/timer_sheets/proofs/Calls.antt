@@ -27,7 +27,7 @@ use Rattle.slots.proofs.Spans.{largest, turns_clock}
 use Rattle.slots.specs.Advances.{Allowed, Largest, advance_refusal, advanced, leapt, span, turns}
 use Rattle.slots.specs.Steps.{Model, admit_after, admit_refusal, arriving, changed, fresh, judged, start_after, start_answer}
 use Rattle.slots.specs.declared.sets.Advanced.{Advanced as ManyTicks}
-use Rattle.std.proofs.lemmas.Bool.{cases_Bool, cond-false, cond_true, ltb-false, ltb-true}
+use Rattle.std.proofs.lemmas.Bool.{cases_Bool, cond-false, cond-true, ltb-false, ltb-true}
 use Rattle.std.specs.Option.{option_map, option_to_list}
 use Rattle.std.specs.List.{AllByRecursion as All}
 
@@ -85,7 +85,7 @@ module _ (rule : Meaning) (law : WithinShare rule) (p : Plan) where
       let all : t - z.clock + k ≡ t - m.clock = omega arith in
       let there : turns (t - z.clock) z ≡ turns (t - m.clock) m = turns_add (t - z.clock) k m ∙ ap (λ (j : ℕ). turns j m) all in
       let more = runs_ran n t (said_too q (call_shown p (next_run m t))) z (run_ran q m t r l h) h (omega arith) in
-      subst (λ (x : List SheetLine). Ran rule (shown_after p q x) (turns (t - m.clock) m)) (sym (cond_true _ _ _ e))
+      subst (λ (x : List SheetLine). Ran rule (shown_after p q x) (turns (t - m.clock) m)) (sym (cond-true _ _ _ e))
       (subst (Ran rule (shown_after p (said_too q (call_shown p (next_run m t))) (runs n t z))) there more))
       (λ (e : ltb m.clock t ≡ false).
       let l = ltb-false m.clock t e in

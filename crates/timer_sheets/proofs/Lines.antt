@@ -11,7 +11,7 @@ use Rattle.slots.proofs.Ticking.{ticking}
 use Rattle.slots.specs.Advances.{turns}
 use Rattle.slots.specs.Slots.{Sound}
 use Rattle.slots.specs.Steps.{Model, moved}
-use Rattle.std.proofs.lemmas.Bool.{cases_Bool, cond-false, cond_true, le-ltb, lt-ltb, ltb-true}
+use Rattle.std.proofs.lemmas.Bool.{cases_Bool, cond-false, cond-true, le-ltb, lt-ltb, ltb-true}
 use Rattle.std.specs.Option.{option_to_list}
 
 abbrev pub Well : Model → Type 0
@@ -66,7 +66,7 @@ module _ (rule : Meaning) (p : Plan) (m : Model) (l : Line) (ls : List Line) whe
       let all : t - z.clock + k ≡ t - m.clock = omega arith in
       let first : runs (t - m.clock) t m ≡ next_run m t ∷ runs (t - z.clock) t z =
       ap (λ (n : ℕ). runs n t m) more
-      ∙ cond_true _ _ _ (lt-ltb m.clock t early)
+      ∙ cond-true _ _ _ (lt-ltb m.clock t early)
       ∙ ap (λ (x : List SheetLine). next_run m t ∷ x) (runs_same d (t - z.clock) t z (turns_well k m w) h (omega arith) (omega arith)) in
       let there : turns (t - z.clock) z ≡ turns (t - m.clock) m = turns_add (t - z.clock) k m ∙ ap (λ (n : ℕ). turns n m) all in
       ap (λ (x : List SheetLine). x ++ Called (turns (t - m.clock) m)) first

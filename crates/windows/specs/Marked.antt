@@ -5,7 +5,7 @@ use Rattle.limits.specs.Ranges.{horizon}
 use Rattle.queues.specs.Dues.{Due, Within}
 use Rattle.queues.specs.Finds.{clash}
 use Rattle.queues.specs.Sizes.{weight}
-use Rattle.std.proofs.lemmas.Bool.{cases_eq, cond-false, cond_true, eq-eqb, ne_eqb}
+use Rattle.std.proofs.lemmas.Bool.{cases_eq, cond-false, cond-true, eq-eqb, ne_eqb}
 use Rattle.std.proofs.Common.{inl, inr, sym, ◌∙◌, arith}
 
 -- bit p of word i
@@ -56,7 +56,7 @@ pub record Earliest (words : List ℕ) (i k : ℕ) : Type 0 where
 
 -- the last of the words has the bit
 pub spot_hit : (words : List ℕ) (base n p : ℕ) → at words n p ≡ 1 → spot words base (suc n) p ≡ Some (base + n)
-spot_hit words base n p e = cond_true (at words n p == 1) (Some (base + n)) (spot words base n p) (eq-eqb (at words n p) 1 e)
+spot_hit words base n p e = cond-true (at words n p == 1) (Some (base + n)) (spot words base n p) (eq-eqb (at words n p) 1 e)
 
 -- or it does not
 pub spot_miss : (words : List ℕ) (base n p : ℕ) → (at words n p ≢ 1) → spot words base (suc n) p ≡ spot words base n p

@@ -1,6 +1,6 @@
 use Rattle.std.proofs.Common.{◌-◌, ltb, Some, None, sym, refl, ◌∙◌}
 use Rattle.std.proofs.lemmas.List.{length-set}
-use Rattle.std.proofs.lemmas.Bool.{cond_true, cond-false, lt-ltb, le-ltb}
+use Rattle.std.proofs.lemmas.Bool.{cond-true, cond-false, lt-ltb, le-ltb}
 use Rattle.slots.specs.declared.slot.Slot.TheVariants.{Working}
 use Rattle.board.specs.Fits.{end_at, wait_at}
 use Rattle.board.proofs.Ties.{agree_keep, agree_put}
@@ -13,7 +13,7 @@ returns-then-work-gt0 g c =
     let t = c.requires.tied in
     let s = c.args.server in
     let w = c.args.work in
-    let wait = cond_true (ltb 0 w.unserved) (Some w.end) None (lt-ltb 0 w.unserved c.if-work-gt0.true) in
+    let wait = cond-true (ltb 0 w.unserved) (Some w.end) None (lt-ltb 0 w.unserved c.if-work-gt0.true) in
     record {
       tied = record {
         kept = c.enter-then-work-gt0.ensures.keeps;
