@@ -8,10 +8,10 @@ use crate::order::Strict;
 
 // Gives the first of the entries held, in an order in which no two stand level.
 pub fn take_first<E: Strict>(heap: &mut Heap<'_, E>) -> Option<E>
-    requires { Sound E.Ordered.atOrBefore heap.old }
-    ensures answer { TakenFirst E.Ordered.atOrBefore heap.old heap.new result }
+    requires { Sound E.at_or_before heap.old }
+    ensures answer { TakenFirst E.at_or_before heap.old heap.new result }
     ensures space { room heap.new ≡ room heap.old }
-    ensures keeps { Sound E.Ordered.atOrBefore heap.new }
+    ensures keeps { Sound E.at_or_before heap.new }
 {
     heap.take()
 }

@@ -6,7 +6,7 @@ use crate::order::Ordered;
 
 // Numbers by their size.
 impl Ordered for u32 {
-    ghost atOrBefore = { nat_le };
+    ghost at_or_before = { nat_le };
 
     ghost total = { Prim.search rules };
 

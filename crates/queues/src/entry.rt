@@ -13,7 +13,7 @@ pub struct Entry {
 
 // By instant, and at one instant by server.
 impl Ordered for Entry {
-    ghost atOrBefore = { entry_order };
+    ghost at_or_before = { entry_order };
 
     ghost total = { Prim.search rules };
 

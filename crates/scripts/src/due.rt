@@ -13,7 +13,7 @@ pub struct Due {
 
 // By instant, and in one instant by place.
 impl Ordered for Due {
-    ghost atOrBefore = { due_order };
+    ghost at_or_before = { due_order };
 
     ghost total = { Prim.search rules };
 

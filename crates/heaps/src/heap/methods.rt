@@ -14,17 +14,17 @@ impl<'a, E: Ordered> Heap<'a, E> {
     pub fn new(places: &'a mut [E]) -> Heap<'a, E>
         ensures answer { held result ≡ [] }
         ensures space { room result ≡ length places.old }
-        ensures keeps { Sound atOrBefore result }
+        ensures keeps { Sound E.at_or_before result }
     {
         Heap { places, len: 0 }
     }
 
     // Adds an entry. Refuses exactly when every place is taken, and then changes nothing.
     pub fn put(&mut self, x: E) -> Result<(), Refusal>
-        requires { Sound atOrBefore self.old }
+        requires { Sound E.at_or_before self.old }
         ensures answer { Put x self.old self.new result }
         ensures space { room self.new ≡ room self.old }
-        ensures keeps { Sound atOrBefore self.new }
+        ensures keeps { Sound E.at_or_before self.new }
     {
         let at = self.len;
         if at == self.places.len() {
@@ -38,10 +38,10 @@ impl<'a, E: Ordered> Heap<'a, E> {
 
     // Gives an entry that is at or before every other, and holds that one no more.
     pub fn take(&mut self) -> Option<E>
-        requires { Sound atOrBefore self.old }
-        ensures answer { Taken atOrBefore self.old self.new result }
+        requires { Sound E.at_or_before self.old }
+        ensures answer { Taken E.at_or_before self.old self.new result }
         ensures space { room self.new ≡ room self.old }
-        ensures keeps { Sound atOrBefore self.new }
+        ensures keeps { Sound E.at_or_before self.new }
     {
         if self.len == 0 {
             return None;
@@ -56,8 +56,8 @@ impl<'a, E: Ordered> Heap<'a, E> {
 
     // The entry that `take` would give.
     pub fn least(&self) -> Option<E>
-        requires { Sound atOrBefore self.now }
-        ensures answer { Least atOrBefore self.now result }
+        requires { Sound E.at_or_before self.now }
+        ensures answer { Least E.at_or_before self.now result }
     {
         if self.len == 0 {
             return None;
@@ -69,7 +69,7 @@ impl<'a, E: Ordered> Heap<'a, E> {
     pub fn clear(&mut self)
         ensures after { held self.new ≡ [] }
         ensures space { room self.new ≡ room self.old }
-        ensures keeps { Sound atOrBefore self.new }
+        ensures keeps { Sound E.at_or_before self.new }
     {
         self.len = 0;
     }

@@ -8,14 +8,14 @@ use crate::order::Ordered;
 impl<'a, E: Ordered> Heap<'a, E> {
     // How many entries it holds.
     pub fn len(&self) -> usize
-        requires { Sound atOrBefore self.now }
+        requires { Sound E.at_or_before self.now }
         ensures answer { result ≡ length (held self.now) }
     {
         self.len
     }
 
     pub fn is_empty(&self) -> bool
-        requires { Sound atOrBefore self.now }
+        requires { Sound E.at_or_before self.now }
         ensures answer { result ≡ (length (held self.now) == 0) }
     {
         self.len() == 0

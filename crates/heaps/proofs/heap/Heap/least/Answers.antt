@@ -6,4 +6,4 @@ pub returns : goal.returns
 returns g c =
     let laws = g.met.E.Ordered in
     let h = c.args.self.now in
-    record { answer = (moves.leads g.E.Ordered.atOrBefore laws.total laws.carries h.places.now h.len _ c.requires.0 c.requires.1, moves.has_first h.places.now h.len _ (omega arith) c.requires.0) }
+    record { answer = (moves.leads g.E.Ordered.at_or_before laws.total laws.carries h.places.now h.len _ c.requires.0 c.requires.1, moves.has_first h.places.now h.len _ (omega arith) c.requires.0) }

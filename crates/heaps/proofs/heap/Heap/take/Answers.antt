@@ -14,7 +14,7 @@ returns g c =
       space = omega arith;
       keeps = (omega arith, c.sift-down.ensures.heaped);
       answer = (
-        moves.leads g.E.Ordered.atOrBefore laws.total laws.carries xs h.len x c.requires.0 c.requires.1,
+        moves.leads g.E.Ordered.at_or_before laws.total laws.carries xs h.len x c.requires.0 c.requires.1,
         moves.take_shuffles xs c.swap.new.self c.sift-down.new.s h.len x (omega arith) c.requires.0 long (at.3 x) (at.1 x) c.sift-down.ensures.shuffled,
       );
     }
