@@ -5,7 +5,7 @@ use Rattle.std.proofs.Common.{inl}
 
 pub returns-in-Err : goal.returns-in-Err
 returns-in-Err c =
-    record { answer = no_plan c.args.plan.now c.args.script.now c.in-Err.e c.error-text.result c.in-Err.ensures.answer c.error-text.ensures.answer }
+    record { answer = no_plan c.args.plan.now c.args.script.now c.in-Err.e c.error_text.result c.in-Err.ensures.answer c.error_text.ensures.answer }
 
 pub returns-in-Ok-read : goal.returns-in-Ok-read
 returns-in-Ok-read c =

@@ -3,17 +3,17 @@ use Rattle.scripts.proofs.reader.read_command.Goals as goal
 use Rattle.std.proofs.lemmas.Bool.{and_from, le-leb}
 use Rattle.std.proofs.Common.{◌∷◌, sym, ◌∙◌}
 
-pub returns-in-err-server-3 : goal.returns-in-err-server-3
-returns-in-err-server-3 c =
-    rw c.from-residual-in-err-server-3.ensures
-    (record { answer = no_start_command c.args.text.now c.in-ok-letter.fields.now c.in-ok-letter.letter.now c.in-ok-letter.ensures.cases.0 c.in-S.is c.in-err-server-3.ensures.answer })
+pub returns-in_err-server-3 : goal.returns-in_err-server-3
+returns-in_err-server-3 c =
+    rw c.from_residual-in_err-server-3.ensures
+    (record { answer = no_start_command c.args.text.now c.in_ok-letter.fields.now c.in_ok-letter.letter.now c.in_ok-letter.ensures.cases.0 c.in-S.is c.in_err-server-3.ensures.answer })
 
-pub returns-in-ok-server-3 : goal.returns-in-ok-server-3
-returns-in-ok-server-3 c =
-    let start = c.in-ok-server-3.ensures.answer in
+pub returns-in_ok-server-3 : goal.returns-in_ok-server-3
+returns-in_ok-server-3 c =
+    let start = c.in_ok-server-3.ensures.answer in
     record {
       answer = (
         and_from _ _ (le-leb _ 255 start.0) (le-leb _ 255 start.1),
-        c.in-ok-letter.ensures.cases.0 ∙ (λ i. c.in-S.is i ∷ start.2 i) ∙ sym (start_parts _ _ _),
+        c.in_ok-letter.ensures.cases.0 ∙ (λ i. c.in-S.is i ∷ start.2 i) ∙ sym (start_parts _ _ _),
       );
     }

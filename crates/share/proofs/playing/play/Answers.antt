@@ -25,7 +25,7 @@ loop-call-preserved g c =
     let left : model c.perform-answer.new.board ≡ after_call r z asked = e.after ∙ ap (λ (x : Meaning). after_call x m asked) same ∙ ap (λ (x : Model). after_call r x asked) inv.3 in (
       e.rule ∙ inv.0,
       e.keeps,
-      c.in-ok-push.ensures.items
+      c.in_ok-push.ensures.items
           ∙ ap (λ (bs : List Answer). bs ++ c.perform-answer.result ∷ []) inv.2
           ∙ ap (λ (a : Answer). answers_of r fresh (take i cs) ++ a ∷ []) told
           ∙ sym (answers_push r fresh (take i cs) asked)

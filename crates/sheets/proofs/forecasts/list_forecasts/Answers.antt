@@ -7,7 +7,7 @@ use Rattle.std.proofs.Common.{◌++◌, string_bytes, refl, ap, ◌∙◌, arith
 
 pub loop-server-preserved : goal.loop-server-preserved
 loop-server-preserved c =
-    joined_push server_forecasts (string_bytes c.args.out.now) c.servers-servers.result.now c.loop-server.server-index c.server-item.result _ _ _ (omega arith) c.server-item.is c.loop-server.invariant refl c.in-ok-forecast-server.ensures.after
+    joined_push server_forecasts (string_bytes c.args.out.now) c.servers-servers.result.now c.loop-server.server-index c.server-item.result _ _ _ (omega arith) c.server-item.is c.loop-server.invariant refl c.in_ok-forecast_server.ensures.after
 
 pub returns : goal.returns
 returns c =

@@ -6,9 +6,9 @@ use Rattle.std.proofs.Common.{◌++◌, string_bytes, sym, ap, ◌∙◌, append
 pub loop-line-preserved : goal.loop-line-preserved
 loop-line-preserved g c =
     let text = string_bytes c.loop-line.text in
-    let rest = to_come g.R.ReleaseRule c.next-line.new.self in (
+    let rest = to_come g.R.ReleaseRule c.next_line.new.self in (
       c.in-Some.ensures.keeps,
-      ap (λ t. t ++ sheet_text rest) c.in-ok-push-line.ensures.after
+      ap (λ t. t ++ sheet_text rest) c.in_ok-push_line.ensures.after
           ∙ append_assoc text (line_text_of c.in-Some.line) (sheet_text rest)
           ∙ ap (λ ls. text ++ sheet_text ls) (sym c.in-Some.ensures.answer)
           ∙ c.loop-line.invariant.1,

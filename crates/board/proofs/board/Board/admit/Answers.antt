@@ -20,14 +20,14 @@ returns-else-self-cap g c =
     let a = c.requires in
     let is : get_or xs (s - 1) Absent ≡ Absent = c.in-Absent.is in
     let n = a.tied.sized in
-    let range = server_none s (sym c.in-ok-check-server.ensures.answer) in
-    let in-unit = cap_none c.args.«cap» (sym c.in-ok-check-cap.ensures.answer) in
+    let range = server_none s (sym c.in_ok-check_server.ensures.answer) in
+    let in-unit = cap_none c.args.«cap» (sym c.in_ok-check_cap.ensures.answer) in
     let l : s - 1 < length xs = omega arith in
     let caps = a.whole.caps in
     let m = total_set cap_of xs (s - 1) (Resting c.args.«cap») Absent l in
     let o = ap cap_of is in
     let m' : Model = model b in
-    let ok = admit_accepted m' s c.args.«cap» (sym c.in-ok-check-server.ensures.answer) (sym c.in-ok-check-cap.ensures.answer) is (omega arith) in
+    let ok = admit_accepted m' s c.args.«cap» (sym c.in_ok-check_server.ensures.answer) (sym c.in_ok-check_cap.ensures.answer) is (omega arith) in
     record {
       keeps = record {
         tied = tied_keep g.Q.Queue g.C.Queue b.ready b.calendar xs s (Resting c.args.«cap») (omega arith) (omega arith) (ap end_at (sym is)) (ap wait_at (sym is)) a.tied;

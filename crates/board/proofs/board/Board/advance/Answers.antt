@@ -5,8 +5,8 @@ use Rattle.board.specs.Boards.{model}
 use Rattle.board.proofs.Advancing.{advance_after_lem, advance_answer, advance_largest, advance_skips, advance_works, last_refused}
 use Rattle.board.proofs.board.Board.advance.Goals as goal
 
-pub overflow-sub-ticks : goal.overflow-sub-ticks
-overflow-sub-ticks g c = (advance_largest (model c.args.self.now) c.args.count c.reach-ticks.result c.reach-ticks.ensures.answer c.requires.whole.sound c.if-count-lt1.false c.if-self-ge-HORIZON.false).allowed.some
+pub overflow_sub-ticks : goal.overflow_sub-ticks
+overflow_sub-ticks g c = (advance_largest (model c.args.self.now) c.args.count c.reach-ticks.result c.reach-ticks.ensures.answer c.requires.whole.sound c.if-count-lt1.false c.if-self-ge-HORIZON.false).allowed.some
 
 pub skip-requires : goal.skip-requires
 skip-requires g c = record {

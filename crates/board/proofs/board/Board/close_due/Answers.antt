@@ -25,7 +25,7 @@ loop-e-smaller-in-Rests g c =
     let t = c.loop-e.invariant.0 in
     let m = c.loop-e.invariant.1 in
     let h = first_here t o.clock m.fit e c.in-Some.ensures.answer c.if-e-self.false in
-    turn_less o.clock c.args.self.now.table.slots o.table.slots c.loop-e.released c.loop-e.ended m e h c.close-first.new.self.clock c.close-first.new.self.table.slots c.close-first.ensures.clock c.close-first.ensures.slots
+    turn_less o.clock c.args.self.now.table.slots o.table.slots c.loop-e.released c.loop-e.ended m e h c.close_first.new.self.clock c.close_first.new.self.table.slots c.close_first.ensures.clock c.close_first.ensures.slots
 
 pub loop-e-smaller : goal.loop-e-smaller
 loop-e-smaller g c =
@@ -34,7 +34,7 @@ loop-e-smaller g c =
     let t = c.loop-e.invariant.0 in
     let m = c.loop-e.invariant.1 in
     let h = first_here t o.clock m.fit e c.in-Some.ensures.answer c.if-e-self.false in
-    turn_less o.clock c.args.self.now.table.slots o.table.slots c.loop-e.released c.loop-e.ended m e h c.close-first.new.self.clock c.close-first.new.self.table.slots c.close-first.ensures.clock c.close-first.ensures.slots
+    turn_less o.clock c.args.self.now.table.slots o.table.slots c.loop-e.released c.loop-e.ended m e h c.close_first.new.self.clock c.close_first.new.self.table.slots c.close_first.ensures.clock c.close_first.ensures.slots
 
 pub loop-e-preserved-in-Rests : goal.loop-e-preserved-in-Rests
 loop-e-preserved-in-Rests g c =
@@ -43,12 +43,12 @@ loop-e-preserved-in-Rests g c =
     let t = c.loop-e.invariant.0 in
     let m = c.loop-e.invariant.1 in
     let h = first_here t o.clock m.fit e c.in-Some.ensures.answer c.if-e-self.false in (
-      c.close-first.ensures.tied,
-      turn_rest o.clock c.args.self.now.table.slots o.table.slots c.loop-e.released c.loop-e.ended m e h c.close-first.new.self.clock c.close-first.new.self.table.slots c.close-first.ensures.clock c.close-first.ensures.slots
-          (sym c.close-first.ensures.answer ∙ c.in-Rests.is) c.with-bit-ended.result (c.with-bit-ended.ensures.answer.here (omega arith)) c.with-bit-ended.ensures.answer.others (omega (arith, c.with-bit-ended.type-inv)),
-      c.close-first.ensures.clock ∙ c.loop-e.invariant.2,
-      c.close-first.ensures.held ∙ c.loop-e.invariant.3,
-      c.close-first.ensures.rule ∙ c.loop-e.invariant.4,
+      c.close_first.ensures.tied,
+      turn_rest o.clock c.args.self.now.table.slots o.table.slots c.loop-e.released c.loop-e.ended m e h c.close_first.new.self.clock c.close_first.new.self.table.slots c.close_first.ensures.clock c.close_first.ensures.slots
+          (sym c.close_first.ensures.answer ∙ c.in-Rests.is) c.with_bit-ended.result (c.with_bit-ended.ensures.answer.here (omega arith)) c.with_bit-ended.ensures.answer.others (omega (arith, c.with_bit-ended.type_inv)),
+      c.close_first.ensures.clock ∙ c.loop-e.invariant.2,
+      c.close_first.ensures.held ∙ c.loop-e.invariant.3,
+      c.close_first.ensures.rule ∙ c.loop-e.invariant.4,
     )
 
 pub loop-e-preserved : goal.loop-e-preserved
@@ -58,12 +58,12 @@ loop-e-preserved g c =
     let t = c.loop-e.invariant.0 in
     let m = c.loop-e.invariant.1 in
     let h = first_here t o.clock m.fit e c.in-Some.ensures.answer c.if-e-self.false in (
-      c.close-first.ensures.tied,
-      turn_next o.clock c.args.self.now.table.slots o.table.slots c.loop-e.released c.loop-e.ended m e h c.close-first.new.self.clock c.close-first.new.self.table.slots c.close-first.ensures.clock c.close-first.ensures.slots
-          c.in-Next.-end (sym c.close-first.ensures.answer ∙ c.in-Next.is) c.with-bit-released.result (c.with-bit-released.ensures.answer.here (omega arith)) c.with-bit-released.ensures.answer.others (omega (arith, c.with-bit-released.type-inv)),
-      c.close-first.ensures.clock ∙ c.loop-e.invariant.2,
-      c.close-first.ensures.held ∙ c.loop-e.invariant.3,
-      c.close-first.ensures.rule ∙ c.loop-e.invariant.4,
+      c.close_first.ensures.tied,
+      turn_next o.clock c.args.self.now.table.slots o.table.slots c.loop-e.released c.loop-e.ended m e h c.close_first.new.self.clock c.close_first.new.self.table.slots c.close_first.ensures.clock c.close_first.ensures.slots
+          c.in-Next.-end (sym c.close_first.ensures.answer ∙ c.in-Next.is) c.with_bit-released.result (c.with_bit-released.ensures.answer.here (omega arith)) c.with_bit-released.ensures.answer.others (omega (arith, c.with_bit-released.type_inv)),
+      c.close_first.ensures.clock ∙ c.loop-e.invariant.2,
+      c.close_first.ensures.held ∙ c.loop-e.invariant.3,
+      c.close_first.ensures.rule ∙ c.loop-e.invariant.4,
     )
 
 pub returns-then-e-self : goal.returns-then-e-self
@@ -85,11 +85,11 @@ returns-then-e-self g c =
       rule = c.loop-e.invariant.4;
     }
 
-pub returns-in-default : goal.returns-in-default
-returns-in-default g c =
+pub returns-in_default : goal.returns-in_default
+returns-in_default g c =
     let o = c.loop-e.self in
     let t = c.loop-e.invariant.0 in
-    let f = c.in-default.ensures.answer in
+    let f = c.in_default.ensures.answer in
     let off : (i : ℕ) → end_at (get_or o.table.slots i Absent) ≡ Some o.clock → ⊥ = λ i q. clash (f (suc i)) (t.working (suc i) ∙ q) in
     let d = over c.args.self.now.clock o.clock c.args.self.now.table.slots o.table.slots c.loop-e.released c.loop-e.ended c.loop-e.invariant.2 c.requires.tied.sized c.requires.fit c.loop-e.invariant.1 off in
     record {

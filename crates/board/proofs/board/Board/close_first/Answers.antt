@@ -69,8 +69,8 @@ returns-in-Next g c =
       rule = refl;
     }
 
-pub returns-in-default : goal.returns-in-default
-returns-in-default g c =
+pub returns-in_default : goal.returns-in_default
+returns-in_default g c =
     let o = c.args.self.now in
     let xs = o.table.slots in
     let e = c.args.e in
@@ -80,7 +80,7 @@ returns-in-default g c =
     let x = get_or xs (e.server - 1) Absent in
     let v = closed o.clock x in
     let is : c.close-closed.new.self ≡ v = c.close-closed.ensures.after in
-    let r = rest_of o.clock e.instant xs (g.C.Queue.due o.calendar) t.working e.server b.0 c.requires.first.0 c.requires.here (c.requires.fit (e.server - 1)) (λ z q. c.in-default.not-Next z (c.close-closed.ensures.answer ∙ q)) in
+    let r = rest_of o.clock e.instant xs (g.C.Queue.due o.calendar) t.working e.server b.0 c.requires.first.0 c.requires.here (c.requires.fit (e.server - 1)) (λ z q. c.in_default.not-Next z (c.close-closed.ensures.answer ∙ q)) in
     record {
       tied = subst (λ (z : Slot). Tied g.Q.Queue g.C.Queue o.ready c.strike.new.queue (set xs (e.server - 1) z)) (sym is) (record {
         kept = t.kept;

@@ -12,8 +12,8 @@ use Rattle.board.specs.Boards.{model}
 use Rattle.board.proofs.Judged.{leave_accepted, server_none}
 use Rattle.board.proofs.board.Board.leave.Goals as goal
 
-pub overflow-sub-self : goal.overflow-sub-self
-overflow-sub-self g c = let xs = c.args.self.now.table.slots in let h = cap_of_le xs (c.args.server - 1) in let o = ap cap_of c.in-Resting.is in let s = c.requires.whole.caps in omega arith
+pub overflow_sub-self : goal.overflow_sub-self
+overflow_sub-self g c = let xs = c.args.self.now.table.slots in let h = cap_of_le xs (c.args.server - 1) in let o = ap cap_of c.in-Resting.is in let s = c.requires.whole.caps in omega arith
 
 pub returns-in-Resting : goal.returns-in-Resting
 returns-in-Resting g c =
@@ -24,13 +24,13 @@ returns-in-Resting g c =
     let k = c.in-Resting.cap in
     let is : get_or xs (s - 1) Absent ≡ Resting k = c.in-Resting.is in
     let n = a.tied.sized in
-    let range = server_none s (sym c.in-ok-check-server.ensures.answer) in
+    let range = server_none s (sym c.in_ok-check_server.ensures.answer) in
     let l : s - 1 < length xs = omega arith in
     let caps = a.whole.caps in
     let m = total_set cap_of xs (s - 1) Absent Absent l in
     let o = ap cap_of is in
     let m' : Model = model b in
-    let ok = leave_accepted m' s k (sym c.in-ok-check-server.ensures.answer) is in
+    let ok = leave_accepted m' s k (sym c.in_ok-check_server.ensures.answer) is in
     record {
       keeps = record {
         tied = tied_keep g.Q.Queue g.C.Queue b.ready b.calendar xs s Absent (omega arith) (omega arith) (ap end_at (sym is)) (ap wait_at (sym is)) a.tied;

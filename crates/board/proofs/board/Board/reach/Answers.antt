@@ -8,4 +8,4 @@ unfolding span
 returns g c =
     let o = c.args.self.now in
     let xs = o.table.slots in
-    record { answer = c.unserved.ensures.answer ∙ ap (owing xs (pick xs)) (c.until-end.ensures.answer ∙ ap (until_end_of o.clock xs) c.min-most.ensures) }
+    record { answer = c.unserved.ensures.answer ∙ ap (owing xs (pick xs)) (c.until_end.ensures.answer ∙ ap (until_end_of o.clock xs) c.min-most.ensures) }

@@ -29,13 +29,13 @@ serve-rest-requires g c =
     let enough : k + 1 ≤ owed (get_or xs i Absent) = leap_owed m o.held a.whole k c.requires.allowed (Some i) p in
     room o.clock k (get_or xs i Absent) (All-get_or (Fine o.clock) xs i Absent p.within a.whole.sound.each) (omega arith)
 
-pub returns-in-default : goal.returns-in-default
-returns-in-default g c =
+pub returns-in_default : goal.returns-in_default
+returns-in_default g c =
     let o = c.args.self.now in
     let m : Model = model o in
     let a = c.requires.agrees in
     let k = c.args.ticks in
-    let p = none_ready a.tied c.in-default.ensures.answer in
+    let p = none_ready a.tied c.in_default.ensures.answer in
     record {
       after = leap_turns m o.held a.whole k c.requires.allowed None p;
       rule = refl;

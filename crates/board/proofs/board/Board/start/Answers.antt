@@ -20,29 +20,29 @@ use Rattle.board.proofs.Openings.{opening_made, opening_past}
 use Rattle.board.proofs.Turns.{same_model}
 use Rattle.board.specs.Fits.{Whole, end_at, wait_at}
 
-pub overflow-mul-cap : goal.overflow-mul-cap
-overflow-mul-cap g c =
+pub overflow_mul-cap : goal.overflow_mul-cap
+overflow_mul-cap g c =
     let xs = c.args.self.now.table.slots in
     let h = cap_of_le xs (c.args.server - 1) in
     let o = ap cap_of c.in-Resting.is in
     let s = c.requires.whole.sound.caps in
     let a : c.in-Resting.cap ≤ 1000000 = omega arith in
     let k = arriving (model c.args.self.now) c.args.load c.args.limit c.args.period in
-    let b : c.args.period ≤ 1000000 = (ranged k (sym c.in-ok-check-action.ensures.answer)).period_high in
+    let b : c.args.period ≤ 1000000 = (ranged k (sym c.in_ok-check_action.ensures.answer)).period_high in
     let m = mul-le-mul a b in
     omega arith
 
-pub returns-in-err-opening : goal.returns-in-err-opening
-returns-in-err-opening g c =
+pub returns-in_err-opening : goal.returns-in_err-opening
+returns-in_err-opening g c =
     let o = c.args.self.now in
     let m : Model = model o in
     let rule = g.R.ReleaseRule.amount o.rule in
     let s = c.args.server in
     let k = arriving m c.args.load c.args.limit c.args.period in
-    let v = sym c.in-ok-check-action.ensures.answer in
-    let past = opening_past rule k v c.in-err-opening.field-0.0 c.in-err-opening.ensures.answer in
-    let no = start_past rule m s k (sym c.in-ok-check-server.ensures.answer) v c.in-Resting.cap c.in-Resting.is c.if-cap-period.false past.1 in
-    let p = err_from_is_err_and c.from-residual-in-err-opening.result c.from-residual-in-err-opening.ensures.1 in
+    let v = sym c.in_ok-check_action.ensures.answer in
+    let past = opening_past rule k v c.in_err-opening.field-0.0 c.in_err-opening.ensures.answer in
+    let no = start_past rule m s k (sym c.in_ok-check_server.ensures.answer) v c.in-Resting.cap c.in-Resting.is c.if-cap-period.false past.1 in
+    let p = err_from_is_err_and c.from_residual-in_err-opening.result c.from_residual-in_err-opening.ensures.1 in
     record {
       answer = rw (p.1, p.2) (ap Err past.0 ∙ ap (λ (w : Option Refusal). judged w (forecast rule k)) (sym no));
       after = ap (λ (w : Option Refusal). changed w m (put m s (Working (opened rule (cap_of (slot_of m.slots s)) k)))) (sym no);
@@ -51,12 +51,12 @@ returns-in-err-opening g c =
       keeps = c.requires;
     }
 
-pub first-work-work-requires : goal.first-work-work-requires
-first-work-work-requires g c =
+pub first_work-work-requires : goal.first_work-work-requires
+first_work-work-requires g c =
     let o = c.args.self.now in
     let rule = g.R.ReleaseRule.amount o.rule in
     let k = arriving (model o) c.args.load c.args.limit c.args.period in
-    let made = opening_made rule k (sym c.in-ok-check-action.ensures.answer) c.in-ok-opening.opening c.in-ok-opening.ensures.answer in
+    let made = opening_made rule k (sym c.in_ok-check_action.ensures.answer) c.in_ok-opening.opening c.in_ok-opening.ensures.answer in
     let from = forecast_from rule k in
     let same = ap (λ (p : Opening). p.boundary) made.0 in
     let early = made.1 in
@@ -67,22 +67,22 @@ begin-requires g c =
     let o = c.args.self.now in
     let rule = g.R.ReleaseRule.amount o.rule in
     let k = arriving (model o) c.args.load c.args.limit c.args.period in
-    let v = sym c.in-ok-check-action.ensures.answer in
-    let made = opening_made rule k v c.in-ok-opening.opening c.in-ok-opening.ensures.answer in
+    let v = sym c.in_ok-check_action.ensures.answer in
+    let made = opening_made rule k v c.in_ok-opening.opening c.in_ok-opening.ensures.answer in
     let begins = opening rule (g.met.R.ReleaseRule.share o.rule) k c.in-Resting.cap (ranged k v) c.if-cap-period.false made.1 in
-    let work : c.first-work-work.result ≡ opened rule c.in-Resting.cap k = c.first-work-work.ensures.answer ∙ ap (opened_by c.in-Resting.cap k) made.0 in
+    let work : c.first_work-work.result ≡ opened rule c.in-Resting.cap k = c.first_work-work.ensures.answer ∙ ap (opened_by c.in-Resting.cap k) made.0 in
     let end = ap (λ (w : Work). w.end) work in
     let fits = begins.lasts.fits in
     let is = c.in-Resting.is in
     record {
       tied = c.requires.tied;
-      server = server_none c.args.server (sym c.in-ok-check-server.ensures.answer);
+      server = server_none c.args.server (sym c.in_ok-check_server.ensures.answer);
       rests = (ap end_at is, ap wait_at is);
       end = omega arith;
     }
 
-pub returns-in-ok-opening : goal.returns-in-ok-opening
-returns-in-ok-opening g c =
+pub returns-in_ok-opening : goal.returns-in_ok-opening
+returns-in_ok-opening g c =
     let o = c.args.self.now in
     let xs = o.table.slots in
     let m : Model = model o in
@@ -91,11 +91,11 @@ returns-in-ok-opening g c =
     let t = o.clock in
     let «cap» = c.in-Resting.cap in
     let k = arriving m c.args.load c.args.limit c.args.period in
-    let here = sym c.in-ok-check-server.ensures.answer in
-    let v = sym c.in-ok-check-action.ensures.answer in
-    let made = opening_made rule k v c.in-ok-opening.opening c.in-ok-opening.ensures.answer in
+    let here = sym c.in_ok-check_server.ensures.answer in
+    let v = sym c.in_ok-check_action.ensures.answer in
+    let made = opening_made rule k v c.in_ok-opening.opening c.in_ok-opening.ensures.answer in
     let begins = opening rule (g.met.R.ReleaseRule.share o.rule) k «cap» (ranged k v) c.if-cap-period.false made.1 in
-    let work : c.first-work-work.result ≡ opened rule «cap» k = c.first-work-work.ensures.answer ∙ ap (opened_by «cap» k) made.0 in
+    let work : c.first_work-work.result ≡ opened rule «cap» k = c.first_work-work.ensures.answer ∙ ap (opened_by «cap» k) made.0 in
     let is : get_or xs (s - 1) Absent ≡ Resting «cap» = c.in-Resting.is in
     let ok = start_accepted rule m s k here v «cap» is c.if-cap-period.false made.1 in
     let range = server_none s here in

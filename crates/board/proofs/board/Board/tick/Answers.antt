@@ -15,8 +15,8 @@ use Rattle.board.proofs.Judged.{tick_accepted}
 use Rattle.board.proofs.Turns.{serve_fit, tick_caps, fit_lasting, same_ticked, same_model}
 use Rattle.board.proofs.board.Board.tick.Goals as goal
 
-pub close-due-sets-requires : goal.close-due-sets-requires
-close-due-sets-requires g c =
+pub close_due-sets-requires : goal.close_due-sets-requires
+close_due-sets-requires g c =
     let b = c.args.self.now in
     let xs = b.table.slots in
     let o = c.serve-served.new.self in
@@ -33,15 +33,15 @@ returns g c =
     let a = c.requires in
     let o = c.serve-served.new.self in
     let e = c.serve-served.ensures in
-    let l = c.close-due-sets.new.self in
-    let d = c.close-due-sets.ensures in
+    let l = c.close_due-sets.new.self in
+    let d = c.close_due-sets.ensures in
     let clock : l.clock ≡ b.clock + 1 = d.clock ∙ ap (λ (k : ℕ). k + 1) e.clock in
     let slots : l.table.slots ≡ tick b.clock xs = d.slots ∙ ap (λ (k : ℕ). map (closed (k + 1)) o.table.slots) e.clock ∙ ap (λ (zs : List Slot). map (closed (b.clock + 1)) zs) e.slots in
-    let marks : c.close-due-sets.result ≡ sets (b.clock + 1) (serve xs) = d.answer ∙ ap (λ (k : ℕ). sets (k + 1) o.table.slots) e.clock ∙ ap (λ (zs : List Slot). sets (b.clock + 1) zs) e.slots in
+    let marks : c.close_due-sets.result ≡ sets (b.clock + 1) (serve xs) = d.answer ∙ ap (λ (k : ℕ). sets (k + 1) o.table.slots) e.clock ∙ ap (λ (zs : List Slot). sets (b.clock + 1) zs) e.slots in
     let ok = tick_accepted m c.if-self-ge-HORIZON.false in
     let sound = ticking b.clock xs a.whole.sound in
     let sound' = subst (λ (zs : List Slot). Sound (b.clock + 1) zs) (sym slots) sound in
-    let told : ◌≡◌ {A = Ticked} (record { served = c.serve-served.result; sets = c.close-due-sets.result }) (record { served = number (pick xs); sets = sets (b.clock + 1) (serve xs) }) = same_ticked e.answer marks in
+    let told : ◌≡◌ {A = Ticked} (record { served = c.serve-served.result; sets = c.close_due-sets.result }) (record { served = number (pick xs); sets = sets (b.clock + 1) (serve xs) }) = same_ticked e.answer marks in
     let early : b.clock < horizon = c.if-self-ge-HORIZON.false in
     record {
       keeps = record {

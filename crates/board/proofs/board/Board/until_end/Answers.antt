@@ -2,8 +2,8 @@ use Rattle.std.proofs.Common.{◌∙◌, arith}
 use Rattle.board.proofs.Reaches.{ahead, until_first, until_none}
 use Rattle.board.proofs.board.Board.until_end.Goals as goal
 
-pub overflow-sub-e : goal.overflow-sub-e
-overflow-sub-e g c = omega (arith, ahead c.requires.tied c.args.self.now.clock c.args.most c.requires.whole.sound.each c.in-Some.e c.in-Some.ensures.answer)
+pub overflow_sub-e : goal.overflow_sub-e
+overflow_sub-e g c = omega (arith, ahead c.requires.tied c.args.self.now.clock c.args.most c.requires.whole.sound.each c.in-Some.e c.in-Some.ensures.answer)
 
 pub returns-in-None : goal.returns-in-None
 returns-in-None g c = record { answer = until_none c.requires.tied c.args.self.now.clock c.args.most c.requires.whole.sound.each c.in-None.ensures.answer }

@@ -10,6 +10,6 @@ returns g c =
     let cut = length-take h.len h.places.now in
     record {
       space = omega arith;
-      keeps = (omega arith, c.sift-up.ensures.heaped);
-      answer = (omega arith, moves.put_shuffles h.places.now c.sift-up.new.s h.len x (omega arith) c.sift-up.ensures.shuffled);
+      keeps = (omega arith, c.sift_up.ensures.heaped);
+      answer = (omega arith, moves.put_shuffles h.places.now c.sift_up.new.s h.len x (omega arith) c.sift_up.ensures.shuffled);
     }

@@ -12,9 +12,9 @@ returns g c =
     let long = c.swap.ensures.len in
     record {
       space = omega arith;
-      keeps = (omega arith, c.sift-down.ensures.heaped);
+      keeps = (omega arith, c.sift_down.ensures.heaped);
       answer = (
         moves.leads g.E.Ordered.at_or_before laws.total laws.carries xs h.len x c.requires.0 c.requires.1,
-        moves.take_shuffles xs c.swap.new.self c.sift-down.new.s h.len x (omega arith) c.requires.0 long (at.3 x) (at.1 x) c.sift-down.ensures.shuffled,
+        moves.take_shuffles xs c.swap.new.self c.sift_down.new.s h.len x (omega arith) c.requires.0 long (at.3 x) (at.1 x) c.sift_down.ensures.shuffled,
       );
     }

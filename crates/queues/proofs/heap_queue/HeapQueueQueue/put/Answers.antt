@@ -20,13 +20,13 @@ returns c =
     let x : Entry = record { instant = t; server = s } in
     let xs = held q.heap in
     let ys = held c.put.new.self in
-    let checked : put_check (heap_due q) s t ≡ None = put_clear (heap_due q) s t c.holds.result c.holds.ensures.answer c.in-ok-check-put.ensures.answer in
+    let checked : put_check (heap_due q) s t ≡ None = put_clear (heap_due q) s t c.holds.result c.holds.ensures.answer c.in_ok-check_put.ensures.answer in
     let ok = passed (heap_due q) s t checked in
     let gone = ok.3 in
     let few : length xs < 64 = room_left xs s p.apart p.bounded ok.0 ok.1 gone in
     let shuffled = put_some x q.heap c.put.new.self c.put.result c.put.ensures.answer (omega (arith, p.long)) in
     let put = put_put xs ys x p.apart gone shuffled in
-    let set = c.with-bit-self.ensures.answer in
+    let set = c.with_bit-self.ensures.answer in
     record {
       answer = sym checked;
       after = λ _. put;
@@ -36,6 +36,6 @@ returns c =
         long = omega (arith, c.put.ensures.space, p.long);
         apart = put_distinct xs ys x p.apart gone shuffled;
         bounded = put_bounded xs ys x p.apart gone shuffled (ok.0, ok.1, ok.2) p.bounded;
-        word = worded_put (sought xs) (sought ys) q.held c.with-bit-self.result s t ok.0 put p.word (set.here (omega arith)) set.others;
+        word = worded_put (sought xs) (sought ys) q.held c.with_bit-self.result s t ok.0 put p.word (set.here (omega arith)) set.others;
       };
     }

@@ -7,10 +7,10 @@ use Rattle.queues.specs.Lists.{sought}
 use Rattle.std.proofs.lemmas.Bool.{true≢false}
 use Rattle.std.proofs.Common.{arith}
 
-pub overflow-sub-entry : goal.overflow-sub-entry
-overflow-sub-entry c =
+pub overflow_sub-entry : goal.overflow_sub-entry
+overflow_sub-entry c =
     let xs = held c.args.self.now.heap in
-    let ys = held c.take-first.new.self in
+    let ys = held c.take_first.new.self in
     let b = take_bounded xs ys c.in-Some.entry c.requires.apart c.in-Some.ensures.answer.1 c.requires.bounded in
     b.0.0
 
@@ -20,12 +20,12 @@ returns-in-Some c =
     let p = c.requires in
     let x = c.in-Some.entry in
     let xs = held q.heap in
-    let ys = held c.take-first.new.self in
+    let ys = held c.take_first.new.self in
     let e = c.in-Some.ensures in
     let s = e.answer.1 in
     let b = take_bounded xs ys x p.apart s p.bounded in
     let took = take_taken xs ys x p.apart s in
-    let cleared = c.without-bit-self.ensures.answer in
+    let cleared = c.without_bit-self.ensures.answer in
     record {
       answer = first_some xs x p.apart (take_has xs ys x p.apart s) e.answer.0;
       after = took;
@@ -35,6 +35,6 @@ returns-in-Some c =
         long = omega (arith, e.space, p.long);
         apart = take_distinct xs ys x p.apart s;
         bounded = b.1;
-        word = worded_taken (sought xs) (sought ys) q.held c.without-bit-self.result x b.0.0 took p.word cleared.here cleared.others;
+        word = worded_taken (sought xs) (sought ys) q.held c.without_bit-self.result x b.0.0 took p.word cleared.here cleared.others;
       };
     }

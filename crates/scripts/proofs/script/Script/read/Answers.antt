@@ -6,17 +6,17 @@ use Rattle.std.proofs.lemmas.Bool.{eqb-false, eqb-true}
 pub loop-rest-init : goal.loop-rest-init
 loop-rest-init c = cutting_none c.args.bytes.now _ c.new-lines.ensures.items
 
-pub returns-then-place-gt-MOST-LINES : goal.returns-then-place-gt-MOST-LINES
-returns-then-place-gt-MOST-LINES c =
+pub returns-then-place-gt-MOST_LINES : goal.returns-then-place-gt-MOST_LINES
+returns-then-place-gt-MOST_LINES c =
     let ls = c.loop-rest.lines in
     let some = eqb-false (length c.loop-rest.rest.now) 0 (sym c.loop-rest-test.ensures) in
-    record { answer = cutting_bad c.args.bytes.now c.loop-rest.rest.now (vec_items ls) c.loop-rest.invariant c.script-fault.result (c.len-place.result + 1) c.script-fault.ensures.answer (omega (arith, ls.ok.0)) (omega arith) (inl (omega (arith, ls.ok.0, c.loop-rest.invariant.few))) }
+    record { answer = cutting_bad c.args.bytes.now c.loop-rest.rest.now (vec_items ls) c.loop-rest.invariant c.script_fault.result (c.len-place.result + 1) c.script_fault.ensures.answer (omega (arith, ls.ok.0)) (omega arith) (inl (omega (arith, ls.ok.0, c.loop-rest.invariant.few))) }
 
-pub returns-in-default : goal.returns-in-default
-returns-in-default c =
+pub returns-in_default : goal.returns-in_default
+returns-in_default c =
     let ls = c.loop-rest.lines in
     let some = eqb-false (length c.loop-rest.rest.now) 0 (sym c.loop-rest-test.ensures) in
-    record { answer = cutting_bad c.args.bytes.now c.loop-rest.rest.now (vec_items ls) c.loop-rest.invariant c.script-fault-in-default.result (c.len-place.result + 1) c.script-fault-in-default.ensures.answer (omega (arith, ls.ok.0)) (omega arith) (inr c.in-default.ensures.answer) }
+    record { answer = cutting_bad c.args.bytes.now c.loop-rest.rest.now (vec_items ls) c.loop-rest.invariant c.script_fault-in_default.result (c.len-place.result + 1) c.script_fault-in_default.ensures.answer (omega (arith, ls.ok.0)) (omega arith) (inr c.in_default.ensures.answer) }
 
 pub loop-rest-smaller : goal.loop-rest-smaller
 loop-rest-smaller c =
@@ -26,7 +26,7 @@ loop-rest-smaller c =
 pub loop-rest-preserved : goal.loop-rest-preserved
 loop-rest-preserved c =
     let read = c.in-Some.ensures.answer in
-    cutting_more c.args.bytes.now c.loop-rest.rest.now (vec_items c.loop-rest.lines) c.loop-rest.invariant c.in-Some.line c.in-Some.after.now _ (omega (arith, c.loop-rest.lines.ok.0)) read.0 read.1 c.in-ok-push.ensures.items
+    cutting_more c.args.bytes.now c.loop-rest.rest.now (vec_items c.loop-rest.lines) c.loop-rest.invariant c.in-Some.line c.in-Some.after.now _ (omega (arith, c.loop-rest.lines.ok.0)) read.0 read.1 c.in_ok-push.ensures.items
 
 pub returns : goal.returns
 returns c =

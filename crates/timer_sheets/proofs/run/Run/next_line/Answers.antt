@@ -21,7 +21,7 @@ returns-then-clock-line g c =
     let rest = coming r.agenda.now in
     let rule : Meaning = g.R.ReleaseRule.amount r.board.rule in
     let plan = r.plan.now in
-    let ran = c.run-on.ensures in
+    let ran = c.run_on.ensures in
     let clock = c.clock.ensures.answer in
     let early : line.instant ≤ horizon = subst (λ (o : Option Line). IfSome o (λ l. l.instant ≤ horizon)) c.in-Some.is live.early in
     let front : (o : Option Line) → o ≡ Some line → option_to_list o ++ rest ≡ line ∷ rest = λ o e. ap (λ (x : Option Line). option_to_list x ++ rest) e in
@@ -32,9 +32,9 @@ returns-then-clock-line g c =
           ∙ ap (λ (ls : List Line). sheet_from rule plan m ls) (front r.awaited c.in-Some.is)
           ∙ next
           ∙ ap (λ (l : SheetLine). l ∷ sheet_from rule plan (turns (stride m line.instant) m) (line ∷ rest)) (sym ran.answer)
-          ∙ ap (λ (z : Model). c.run-on.result ∷ sheet_from rule plan z (line ∷ rest)) (sym ran.after)
-          ∙ ap (λ (ls : List Line). c.run-on.result ∷ sheet_from rule plan (model c.run-on.new.board) ls) (sym (front r.awaited c.in-Some.is))
-          ∙ ap (λ (a : g.row.R.Denot). c.run-on.result ∷ sheet_from (g.R.ReleaseRule.amount a) plan (model c.run-on.new.board) (option_to_list r.awaited ++ rest)) (sym ran.rule);
+          ∙ ap (λ (z : Model). c.run_on.result ∷ sheet_from rule plan z (line ∷ rest)) (sym ran.after)
+          ∙ ap (λ (ls : List Line). c.run_on.result ∷ sheet_from rule plan (model c.run_on.new.board) ls) (sym (front r.awaited c.in-Some.is))
+          ∙ ap (λ (a : g.row.R.Denot). c.run_on.result ∷ sheet_from (g.R.ReleaseRule.amount a) plan (model c.run_on.new.board) (option_to_list r.awaited ++ rest)) (sym ran.rule);
       keeps = record { agrees = ran.keeps; early = live.early; over = live.over };
     }
 
@@ -43,6 +43,6 @@ returns g c =
     let r = c.loop-self.self in
     let live = c.loop-self.invariant.0 in
     let lines : option_to_list r.awaited ++ coming r.agenda.now ≡ [] =
-    ap (λ (o : Option Line). option_to_list o ++ coming r.agenda.now) c.in-default.is ∙ live.over c.in-default.is in
+    ap (λ (o : Option Line). option_to_list o ++ coming r.agenda.now) c.in_default.is ∙ live.over c.in_default.is in
     let none = ap (λ (ls : List Line). sheet_from (g.R.ReleaseRule.amount r.board.rule) r.plan.now (model r.board) ls) lines in
     record { answer = (sym c.loop-self.invariant.1 ∙ none, none); keeps = live }

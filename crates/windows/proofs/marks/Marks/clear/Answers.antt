@@ -15,13 +15,13 @@ returns c =
     let m = c.args.self.now in
     let r = c.args.offset in
     let p = c.args.place in
-    let w = c.without-bit-word.result in
+    let w = c.without_bit-word.result in
     let xs = m.words in
     let fine = c.requires.sane in
     let short = c.requires.offset in
     let inside : r < length xs = omega arith in
-    let others = c.without-bit-word.ensures.answer.others in
-    let here = c.without-bit-word.ensures.answer.here in
+    let others = c.without_bit-word.ensures.answer.others in
+    let here = c.without_bit-word.ensures.answer.here in
     let was = c.requires.stands in
     let back : p + 1 - 1 ≡ p = omega arith in
     record {
@@ -32,6 +32,6 @@ returns c =
         summed = summed_set xs m.summary c.resummed-self.result r w fine.summed inside c.resummed-self.ensures.here c.resummed-self.ensures.others;
         single = clear_single xs m.base r w p inside others short fine.single fine.placed was here;
         placed = clear_placed xs m.base r w p inside others short fine.single fine.placed was here;
-        gathered = clear_gathered xs m.base r w p inside others short fine.single fine.placed was here m.held c.without-bit-self.result fine.gathered c.without-bit-self.ensures.answer.here c.without-bit-self.ensures.answer.others;
+        gathered = clear_gathered xs m.base r w p inside others short fine.single fine.placed was here m.held c.without_bit-self.result fine.gathered c.without_bit-self.ensures.answer.here c.without_bit-self.ensures.answer.others;
       };
     }

@@ -9,7 +9,7 @@ use Rattle.std.proofs.Common.{sym, ◌∙◌}
 pub returns-then-server-gt0 : goal.returns-then-server-gt0
 returns-then-server-gt0 c =
     let m = c.args.self.now in
-    record { answer = c.has-bit.ensures.answer ∙ gathered_some m.words m.base m.held c.args.server c.requires.gathered c.if-server-gt0.true }
+    record { answer = c.has_bit.ensures.answer ∙ gathered_some m.words m.base m.held c.args.server c.requires.gathered c.if-server-gt0.true }
 
 pub returns-else-server-gt0 : goal.returns-else-server-gt0
 returns-else-server-gt0 c =

@@ -6,11 +6,11 @@ use Rattle.windows.proofs.Marking.{marked_first, none_marked}
 use Rattle.windows.proofs.marks.Marks.take.Goals as goal
 use Rattle.windows.specs.Windows.{near}
 
-pub returns-in-default : goal.returns-in-default
-returns-in-default c =
+pub returns-in_default : goal.returns-in_default
+returns-in_default c =
     let m = c.args.self.now in
     record {
-      answer = none_marked m.base m.words m.summary m.held c.requires c.in-default.ensures.answer;
+      answer = none_marked m.base m.words m.summary m.held c.requires c.in_default.ensures.answer;
       after = λ k. refl;
       stays = λ _. refl;
       keeps = c.requires;
@@ -21,8 +21,8 @@ returns c =
     let m = c.args.self.now in
     let k = c.in-Some.mark in
     record {
-      answer = subst (λ (e : Entry). First (near m) (Some e)) (sym c.entry-of-first.ensures.answer) (marked_first m.words m.base k.offset k.place c.requires.single c.in-Some.ensures.answer);
-      after = subst (λ (e : Entry). Taken (near m) (near c.clear.new.self) (Some e)) (sym c.entry-of-first.ensures.answer) (c.clear.ensures.gone, c.clear.ensures.others);
+      answer = subst (λ (e : Entry). First (near m) (Some e)) (sym c.entry_of-first.ensures.answer) (marked_first m.words m.base k.offset k.place c.requires.single c.in-Some.ensures.answer);
+      after = subst (λ (e : Entry). Taken (near m) (near c.clear.new.self) (Some e)) (sym c.entry_of-first.ensures.answer) (c.clear.ensures.gone, c.clear.ensures.others);
       stays = λ u. absurd (true≢false u);
       keeps = c.clear.ensures.keeps;
     }

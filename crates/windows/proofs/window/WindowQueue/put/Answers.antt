@@ -15,7 +15,7 @@ offer-requires g c =
     let w = c.args.self.now in
     let s = c.args.server in
     let t = c.args.instant in
-    let ok = passed (over q w) s t (put_clear (over q w) s t c.holds.result c.holds.ensures.answer c.in-ok-check-put.ensures.answer) in
+    let ok = passed (over q w) s t (put_clear (over q w) s t c.holds.result c.holds.ensures.answer c.in_ok-check_put.ensures.answer) in
     record { sane = c.requires.marks; server = (ok.0, ok.1); early = ok.2; absent = (neither (near w.marks s) (q.due w.below s) ok.3).0 }
 
 pub returns-then-offer : goal.returns-then-offer
@@ -28,7 +28,7 @@ returns-then-offer g c =
     let f = near w.marks in
     let d = q.due w.below in
     let f' = near c.offer.new.self in
-    let checked : put_check (over q w) s t ≡ None = put_clear (over q w) s t c.holds.result c.holds.ensures.answer c.in-ok-check-put.ensures.answer in
+    let checked : put_check (over q w) s t ≡ None = put_clear (over q w) s t c.holds.result c.holds.ensures.answer c.in_ok-check_put.ensures.answer in
     let ok = passed (over q w) s t checked in
     let none = neither (f s) (d s) ok.3 in
     let put : Put f f' s t = c.offer.ensures.after c.if-offer.true in
@@ -56,7 +56,7 @@ returns g c =
     let d = q.due w.below in
     let below' = c.put.new.self in
     let d' = q.due below' in
-    let checked : put_check (over q w) s t ≡ None = put_clear (over q w) s t c.holds.result c.holds.ensures.answer c.in-ok-check-put.ensures.answer in
+    let checked : put_check (over q w) s t ≡ None = put_clear (over q w) s t c.holds.result c.holds.ensures.answer c.in_ok-check_put.ensures.answer in
     let ok = passed (over q w) s t checked in
     let none = neither (f s) (d s) ok.3 in
     let stay : c.offer.new.self ≡ w.marks = c.offer.ensures.stays c.if-offer.false in

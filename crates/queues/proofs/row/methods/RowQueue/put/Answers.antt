@@ -14,11 +14,11 @@ insert-at-requires c =
     let q = c.args.self.now in
     let s = c.args.server in
     let t = c.args.instant in
-    let ok = passed (row_due q) s t (put_clear (row_due q) s t c.holds.result c.holds.ensures.answer c.in-ok-check-put.ensures.answer) in
+    let ok = passed (row_due q) s t (put_clear (row_due q) s t c.holds.result c.holds.ensures.answer c.in_ok-check_put.ensures.answer) in
     record { room = omega (arith, room q.places q.len s q.apart q.bounded ok.0 ok.1 ok.3); falls = q.falls; bounded = q.bounded }
 
-pub invariant-of-self : goal.invariant-of-self
-invariant-of-self c =
+pub invariant_of-self : goal.invariant_of-self
+invariant_of-self c =
     let q = c.args.self.now in
     let s = c.args.server in
     let t = c.args.instant in
@@ -27,11 +27,11 @@ invariant-of-self c =
     let n = q.len in
     let r = c.insert-at.result in
     let new : Entry = record { instant = t; server = s } in
-    let ok = passed (row_due q) s t (put_clear (row_due q) s t c.holds.result c.holds.ensures.answer c.in-ok-check-put.ensures.answer) in
+    let ok = passed (row_due q) s t (put_clear (row_due q) s t c.holds.result c.holds.ensures.answer c.in_ok-check_put.ensures.answer) in
     let absent = none_from xs n s ok.3 in
     let ins = c.insert-at.ensures.after in
     let put = new_put xs ys n r new ins absent q.apart in
-    let set = c.with-bit-self.ensures.answer in (
+    let set = c.with_bit-self.ensures.answer in (
       omega (arith, room xs n s q.apart q.bounded ok.0 ok.1 ok.3),
       (
         new_falls xs ys n r new ins absent q.falls q.bounded ok.1,
@@ -39,7 +39,7 @@ invariant-of-self c =
           new_apart xs ys n r new ins absent q.apart,
           (
             new_bounded xs ys n r new ins absent q.bounded (ok.0, ok.1, ok.2),
-            (worded_put (found xs n) (found ys (n + 1)) q.held c.with-bit-self.result s t ok.0 put q.word (set.here (omega arith)) set.others, tt),
+            (worded_put (found xs n) (found ys (n + 1)) q.held c.with_bit-self.result s t ok.0 put q.word (set.here (omega arith)) set.others, tt),
           ),
         ),
       ),
@@ -55,7 +55,7 @@ returns c =
     let n = q.len in
     let r = c.insert-at.result in
     let new : Entry = record { instant = t; server = s } in
-    let checked : put_check (row_due q) s t ≡ None = put_clear (row_due q) s t c.holds.result c.holds.ensures.answer c.in-ok-check-put.ensures.answer in
+    let checked : put_check (row_due q) s t ≡ None = put_clear (row_due q) s t c.holds.result c.holds.ensures.answer c.in_ok-check_put.ensures.answer in
     let absent = none_from xs n s (passed (row_due q) s t checked).3 in
     let ins = c.insert-at.ensures.after in
     record {

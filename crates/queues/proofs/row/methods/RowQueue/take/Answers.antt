@@ -6,15 +6,15 @@ use Rattle.queues.specs.Entries.{nobody}
 use Rattle.queues.specs.Rows.{found}
 use Rattle.std.proofs.lemmas.Bool.{true≢false}
 
-pub invariant-of-self : goal.invariant-of-self
-invariant-of-self c =
+pub invariant_of-self : goal.invariant_of-self
+invariant_of-self c =
     let q = c.args.self.now in
     let xs = q.places in
     let n = q.len in
     let is : n ≡ suc (n - 1) = omega arith in
     let took = last_taken xs n (n - 1) is q.falls q.apart q.bounded in
     let bound = q.bounded (n - 1) (omega arith) in
-    let cleared = c.without-bit-self.ensures.answer in (
+    let cleared = c.without_bit-self.ensures.answer in (
       omega arith,
       (
         (λ i j l m. q.falls i j l (omega arith)),
@@ -22,7 +22,7 @@ invariant-of-self c =
           (λ i j l. q.apart i j (l.0, omega arith)),
           (
             (λ i l. q.bounded i (omega arith)),
-            (worded_taken (found xs n) (found xs (n - 1)) q.held c.without-bit-self.result (get_or xs (n - 1) nobody) bound.0 took q.word cleared.here cleared.others, tt),
+            (worded_taken (found xs n) (found xs (n - 1)) q.held c.without_bit-self.result (get_or xs (n - 1) nobody) bound.0 took q.word cleared.here cleared.others, tt),
           ),
         ),
       ),
