@@ -23,7 +23,7 @@ use Rattle.slots.specs.declared.slot.Slot.{Slot}
 use Rattle.slots.specs.declared.slot.Slot.TheVariants.{Absent, Resting, Working}
 use Rattle.std.proofs.lemmas.List.{length-map}
 use Rattle.std.proofs.lemmas.Bool.{both_ways, eqb-true}
-use Rattle.std.specs.List.{AllByRecursion as All}
+use Rattle.std.specs.List.{AllByRecursion}
 
 ends_works : (t : ℕ) (x : Slot) → ends t x ≡ true → works x ≡ true
 ends_works t Absent h = h
@@ -68,7 +68,7 @@ module _ (rule : Meaning) (p : Trace) (xs : List Slot) (e : Explains rule p xs) 
   picked : Picked xs (pick xs)
   picked = pick_tells xs
 
-  none_is_late : All (λ x. late (now + 1) x ≡ false) ys
+  none_is_late : AllByRecursion (λ x. late (now + 1) x ≡ false) ys
   none_is_late = none_late (now + 1) ys (serve_bound now xs e.sound)
 
   -- the slot i

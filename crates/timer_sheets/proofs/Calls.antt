@@ -29,11 +29,11 @@ use Rattle.slots.specs.Steps.{Model, admit_after, admit_refusal, arriving, chang
 use Rattle.slots.specs.declared.sets.Advanced.{Advanced as ManyTicks}
 use Rattle.std.proofs.lemmas.Bool.{cases_Bool, cond-false, cond-true, ltb-false, ltb-true}
 use Rattle.std.specs.Option.{option_map, option_to_list}
-use Rattle.std.specs.List.{AllByRecursion as All}
+use Rattle.std.specs.List.{AllByRecursion}
 
 -- the lines lie by the horizon
 abbrev pub Timely : List Line → Type 0
-Timely ls = All (λ l. l.instant ≤ horizon) ls
+Timely ls = AllByRecursion (λ l. l.instant ≤ horizon) ls
 
 shown_append : (p : Plan) (q : Trace) (xs ys : List SheetLine) → shown_after p q (xs ++ ys) ≡ shown_after p (shown_after p q xs) ys
 shown_append p q [] ys = refl
