@@ -43,7 +43,7 @@ fn write_run<W: Write>(heap: Global, out: &mut W, plan: &Plan, script: &Script) 
         place: 0
     }; script.lines().len()]?;
     let mut agenda = Agenda::over(places.as_mut_slice());
-    if let Err(fault) = agenda.load(script) {
+    if let Err(fault) = agenda.load(script.lines()) {
         return write_error(out, ReadError::Fault(fault));
     }
     let calendar = Window::new(Row::new());

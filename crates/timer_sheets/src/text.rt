@@ -88,7 +88,7 @@ pub fn push_sheet<R: ReleaseRule + Drop>(
         calendar.len(),
     )?;
     let mut agenda = Agenda::over(places);
-    let _ = agenda.load(script);
+    let _ = agenda.load(script.lines());
     match (HeapQueue::new(ready), HeapQueue::new(calendar)) {
         (Ok(ready), Ok(calendar)) => {
             let mut run = Run::new(plan, &mut agenda, rule, ready, calendar);

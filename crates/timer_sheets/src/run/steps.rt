@@ -6,7 +6,9 @@ ghost use Rattle.timer_sheets.specs.Calls.{shown_after};
 ghost use Rattle.timer_sheets.specs.Runs.{Given, Live, to_come};
 ghost use Rattle.timer_sheets.specs.Sheets.{sheet_from};
 ghost use Rattle.slots.specs.Steps.{fresh};
-ghost use Rattle.std.specs.Prelude.{◌≡◌};
+ghost use Rattle.limits.specs.Ranges.{horizon};
+ghost use Rattle.std.specs.List.{AllByRecursion};
+ghost use Rattle.std.specs.Prelude.{◌≡◌, ◌≤◌};
 
 use crate::line::SheetLine;
 use crate::play::{call, run_on};
@@ -18,7 +20,7 @@ use release::ReleaseRule;
 use scripts::Agenda;
 
 impl<'p, 'a, 'l, 'm, R: ReleaseRule, Q: Queue, C: Queue> Run<'p, 'a, 'l, 'm, R, Q, C> {
-    // A run of the agenda's lines on a new board. The calls that its lines show, and their answers, keep the share law.
+    // A run of the agenda's lines, none past the horizon, on a new board. The calls that its lines show, and their answers, keep the share law.
     pub fn new(
         plan: &'p Plan,
         agenda: &'a mut Agenda<'l, 'm>,
@@ -26,7 +28,8 @@ impl<'p, 'a, 'l, 'm, R: ReleaseRule, Q: Queue, C: Queue> Run<'p, 'a, 'l, 'm, R, 
         ready: Q,
         calendar: C,
     ) -> Run<'p, 'a, 'l, 'm, R, Q, C>
-        requires { (Q.Queue.sound ready) × (C.Queue.sound calendar) }
+        requires sound { (Q.Queue.sound ready) × (C.Queue.sound calendar) }
+        requires early { AllByRecursion (λ l. l.instant ≤ horizon) (coming agenda.old) }
         ensures answer { to_come R.ReleaseRule result ≡ sheet_from (R.ReleaseRule.amount rule) plan.now fresh (coming agenda.old) }
         ensures law { Kept (R.ReleaseRule.amount rule) (shown_after plan.now nothing (to_come R.ReleaseRule result)) }
         ensures keeps { Live Q.Queue C.Queue result }
