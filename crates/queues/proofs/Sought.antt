@@ -1,5 +1,5 @@
 -- The entries of a list, in whatever order they stand.
-use Rattle.std.proofs.Common.{◌≡◌, ℕ, zero, suc, ◌-◌, ◌<◌, ◌≤◌, eqb, List, [], ◌∷◌, length, get_or, Some, None, sum_by, sym, refl, ◌∙◌, subst, inl, inr, arith}
+use Rattle.std.proofs.Common.{◌≡◌, ℕ, zero, suc, ◌<◌, ◌≤◌, eqb, List, [], ◌∷◌, length, get_or, Some, None, sum_by, sym, refl, ◌∙◌, subst, inl, inr, arith}
 use Rattle.bits.proofs.Bits.{bit_of_zero}
 use Rattle.queues.proofs.Counts.{size_more, size_none, size_room}
 use Rattle.queues.proofs.Known.{known}

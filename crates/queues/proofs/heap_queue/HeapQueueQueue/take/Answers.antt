@@ -10,7 +10,7 @@ use Rattle.std.proofs.Common.{arith}
 pub overflow_sub-entry : goal.overflow_sub-entry
 overflow_sub-entry c =
     let xs = held c.args.self.now.heap in
-    let ys = held c.take_first.new.self in
+    let ys = held c.take-first.new.self in
     let b = take_bounded xs ys c.in-Some.entry c.requires.apart c.in-Some.ensures.answer.1 c.requires.bounded in
     b.0.0
 
@@ -20,7 +20,7 @@ returns-in-Some c =
     let p = c.requires in
     let x = c.in-Some.entry in
     let xs = held q.heap in
-    let ys = held c.take_first.new.self in
+    let ys = held c.take-first.new.self in
     let e = c.in-Some.ensures in
     let s = e.answer.1 in
     let b = take_bounded xs ys x p.apart s p.bounded in

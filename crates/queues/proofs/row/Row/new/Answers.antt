@@ -4,4 +4,10 @@ use Rattle.std.proofs.Common.{arith}
 
 pub invariant_of-result : goal.invariant_of-result
 invariant_of-result c =
-    (omega arith, (λ i j l m. absurd (omega arith), (λ i j l. absurd (omega arith), (λ i l. absurd (omega arith), (λ p. bit_of_zero p, tt)))))
+    record {
+      fits = omega arith;
+      falls = λ i j l m. absurd (omega arith);
+      apart = λ i j l. absurd (omega arith);
+      bounded = λ i l. absurd (omega arith);
+      word = λ p. bit_of_zero p;
+    }

@@ -31,19 +31,14 @@ invariant_of-self c =
     let absent = none_from xs n s ok.3 in
     let ins = c.insert-at.ensures.after in
     let put = new_put xs ys n r new ins absent q.apart in
-    let set = c.with_bit-self.ensures.answer in (
-      omega (arith, room xs n s q.apart q.bounded ok.0 ok.1 ok.3),
-      (
-        new_falls xs ys n r new ins absent q.falls q.bounded ok.1,
-        (
-          new_apart xs ys n r new ins absent q.apart,
-          (
-            new_bounded xs ys n r new ins absent q.bounded (ok.0, ok.1, ok.2),
-            (worded_put (found xs n) (found ys (n + 1)) q.held c.with_bit-self.result s t ok.0 put q.word (set.here (omega arith)) set.others, tt),
-          ),
-        ),
-      ),
-    )
+    let set = c.with_bit-self.ensures.answer in
+    record {
+      fits = omega (arith, room xs n s q.apart q.bounded ok.0 ok.1 ok.3);
+      falls = new_falls xs ys n r new ins absent q.falls q.bounded ok.1;
+      apart = new_apart xs ys n r new ins absent q.apart;
+      bounded = new_bounded xs ys n r new ins absent q.bounded (ok.0, ok.1, ok.2);
+      word = worded_put (found xs n) (found ys (n + 1)) q.held c.with_bit-self.result s t ok.0 put q.word (set.here (omega arith)) set.others;
+    }
 
 pub returns : goal.returns
 returns c =

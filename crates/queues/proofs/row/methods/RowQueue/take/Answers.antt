@@ -14,19 +14,14 @@ invariant_of-self c =
     let is : n ≡ suc (n - 1) = omega arith in
     let took = last_taken xs n (n - 1) is q.falls q.apart q.bounded in
     let bound = q.bounded (n - 1) (omega arith) in
-    let cleared = c.without_bit-self.ensures.answer in (
-      omega arith,
-      (
-        (λ i j l m. q.falls i j l (omega arith)),
-        (
-          (λ i j l. q.apart i j (l.0, omega arith)),
-          (
-            (λ i l. q.bounded i (omega arith)),
-            (worded_taken (found xs n) (found xs (n - 1)) q.held c.without_bit-self.result (get_or xs (n - 1) nobody) bound.0 took q.word cleared.here cleared.others, tt),
-          ),
-        ),
-      ),
-    )
+    let cleared = c.without_bit-self.ensures.answer in
+    record {
+      fits = omega arith;
+      falls = λ i j l m. q.falls i j l (omega arith);
+      apart = λ i j l. q.apart i j (l.0, omega arith);
+      bounded = λ i l. q.bounded i (omega arith);
+      word = worded_taken (found xs n) (found xs (n - 1)) q.held c.without_bit-self.result (get_or xs (n - 1) nobody) bound.0 took q.word cleared.here cleared.others;
+    }
 
 pub returns : goal.returns
 returns c =
