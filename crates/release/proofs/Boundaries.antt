@@ -1,5 +1,5 @@
 -- Where the boundaries of an action lie, and which of them is its end.
-use Rattle.std.proofs.Common.{◌≡◌, ℕ, ◌+◌, ◌-◌, ◌*◌, ◌/◌, ◌<◌, ◌≤◌, ltb, ◌⊎◌, sym, ap, ◌∙◌, ⊎_elim, mul-le-mul_right, mul_assoc, mul_comm, mul-le-mul_left, le_of_mul-le-mul_right, arith}
+use Rattle.std.proofs.Common.{◌≡◌, ℕ, ◌+◌, ◌-◌, ◌*◌, ◌/◌, ◌<◌, ◌≤◌, ltb, sym, ap, ◌∙◌, ⊎_elim, mul-le-mul_right, mul_assoc, mul_comm, mul-le-mul_left, le_of_mul-le-mul_right, arith}
 use Rattle.release.proofs.Ceils.{ceil_below, ceil_from, ceil_least}
 use Rattle.release.specs.Actions.{Action, Completes, Meaning, boundary, ceil, first_amount_of, first_boundary_of, forecast}
 use Rattle.release.specs.Rules.{WithinShare}

@@ -1,5 +1,5 @@
 -- What the stretches of a row add up to, and where the row ends.
-use Rattle.std.proofs.Common.{◌≡◌, ℕ, zero, suc, ◌+◌, ◌-◌, ◌<◌, ◌≤◌, ◌⊎◌, List, [], ◌∷◌, ◌++◌, length, take, sum_by, sym, refl, ap, ◌∙◌, ⊎_elim, mul-le-mul_left, mul-suc, arith, take_all}
+use Rattle.std.proofs.Common.{◌≡◌, ℕ, zero, suc, ◌+◌, ◌-◌, ◌<◌, ◌≤◌, List, [], ◌∷◌, ◌++◌, length, take, sum_by, sym, refl, ap, ◌∙◌, ⊎_elim, mul-le-mul_left, mul-suc, arith, take_all}
 use Rattle.release.proofs.Boundaries.{first_none, forecast_is}
 use Rattle.release.specs.Actions.{Action, Completes, Meaning, amount, begins, boundary, due, first_boundary_of, forecast}
 use Rattle.release.specs.Rows.{EndsAt, Stretch, later_stretch, left, opening_row, opening_stretch, row}

@@ -16,8 +16,8 @@ pub fn forecast_end<R: ReleaseRule>(
     limit: u32,
     period: u32,
 ) -> Result<u64, Refusal>
-    ensures answer { result ≡ forecast_answer (amount rule.now) (action arrival load limit period) }
-    ensures law { ForecastLaw (amount rule.now) }
+    ensures answer { result ≡ forecast_answer (R.amount rule.now) (action arrival load limit period) }
+    ensures law { ForecastLaw (R.amount rule.now) }
 {
     Ok(open_action(rule, arrival, load, limit, period)?.end)
 }

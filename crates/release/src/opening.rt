@@ -24,7 +24,7 @@ pub fn open_action<R: ReleaseRule>(
     limit: u32,
     period: u32,
 ) -> Result<Opening, Refusal>
-    ensures answer { result ≡ opening_answer (amount rule.now) (action arrival load limit period) }
+    ensures answer { result ≡ opening_answer (R.amount rule.now) (action arrival load limit period) }
 {
     check_action(load, limit, period)?;
     let Some(boundary) = first_boundary(arrival, period) else {
@@ -53,7 +53,7 @@ fn counted_amount<R: ReleaseRule>(
     arrival: u64,
     boundary: u64,
 ) -> u32
-    ensures answer { result ≡ (if nat_lt arrival boundary then amount rule.now limit period arrival boundary else 0) }
+    ensures answer { result ≡ (if nat_lt arrival boundary then R.amount rule.now limit period arrival boundary else 0) }
 {
     if boundary <= arrival {
         return 0;

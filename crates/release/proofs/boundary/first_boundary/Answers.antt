@@ -11,6 +11,6 @@ checked n d most (Some x) h = let e = multiple_next n d h.0.0 in ((h.0.0, omega 
 
 pub returns : goal.returns
 returns c = record {
-  answer = checked c.args.arrival c.args.period _ c.checked-next-multiple-of.result c.checked-next-multiple-of.ensures;
+  answer = checked c.args.arrival c.args.period _ c.checked_next_multiple_of.result c.checked_next_multiple_of.ensures;
   law = multiple_least c.args.arrival c.args.period;
 }

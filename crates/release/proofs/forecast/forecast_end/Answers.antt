@@ -23,13 +23,13 @@ module _ (rule : Meaning) (k : Action) where
   passed_end : (o : Opening) → Ok o ≡ opening_answer rule k → Ok o.end ≡ forecast_answer rule k
   passed_end o h = ended (opening_check rule k) (opening_of rule k) o h
 
-pub returns-in-err-open-action : goal.returns-in-err-open-action
-returns-in-err-open-action g c =
+pub returns-in_err-open_action : goal.returns-in_err-open_action
+returns-in_err-open_action g c =
     let a = c.args in
     let rule = g.R.ReleaseRule.amount a.rule.now in
-    let p = err_from_is_err_and c.from-residual.result c.from-residual.ensures.1 in
+    let p = err_from_is_err_and c.from_residual.result c.from_residual.ensures.1 in
     record {
-      answer = rw (p.1, p.2) (passed_refusal rule (action a.arrival a.load a.limit a.period) c.in-err-open-action.field-0.0 c.in-err-open-action.ensures.answer);
+      answer = rw (p.1, p.2) (passed_refusal rule (action a.arrival a.load a.limit a.period) c.in_err-open_action.field-0.0 c.in_err-open_action.ensures.answer);
       law = forecast_law rule (g.met.R.ReleaseRule.share a.rule.now);
     }
 
@@ -38,6 +38,6 @@ returns g c =
     let a = c.args in
     let rule = g.R.ReleaseRule.amount a.rule.now in
     record {
-      answer = passed_end rule (action a.arrival a.load a.limit a.period) c.in-ok-open-action.field-0 c.in-ok-open-action.ensures.answer;
+      answer = passed_end rule (action a.arrival a.load a.limit a.period) c.in_ok-open_action.field-0 c.in_ok-open_action.ensures.answer;
       law = forecast_law rule (g.met.R.ReleaseRule.share a.rule.now);
     }

@@ -42,12 +42,12 @@ module _ (rule : Meaning) (k : Action) (passed : None ≡ values_check k) where
     within : e ≤ horizon → Ok made ≡ opening_answer rule k
     within h = simp (check_none rule k (sym passed) (omega (arith, ap (λ (o : Opening). o.end) same))) (ap Ok same)
 
-pub returns-in-default : goal.returns-in-default
-returns-in-default g c =
+pub returns-in_default : goal.returns-in_default
+returns-in_default g c =
     let a = c.args in
     record {
       answer = none (g.R.ReleaseRule.amount a.rule.now) (action a.arrival a.load a.limit a.period)
-          c.in-ok-check-action.ensures.answer c.in-default.ensures.answer;
+          c.in_ok-check_action.ensures.answer c.in_default.ensures.answer;
     }
 
 pub returns-then-boundary-gt-HORIZON : goal.returns-then-boundary-gt-HORIZON
@@ -55,7 +55,7 @@ returns-then-boundary-gt-HORIZON g c =
     let a = c.args in
     record {
       answer = far (g.R.ReleaseRule.amount a.rule.now) (action a.arrival a.load a.limit a.period)
-          c.in-ok-check-action.ensures.answer (omega (arith, c.in-Some.ensures.answer.1));
+          c.in_ok-check_action.ensures.answer (omega (arith, c.in-Some.ensures.answer.1));
     }
 
 pub returns-then-end-gt-HORIZON : goal.returns-then-end-gt-HORIZON
@@ -63,8 +63,8 @@ returns-then-end-gt-HORIZON g c =
     let a = c.args in
     record {
       answer = beyond (g.R.ReleaseRule.amount a.rule.now) (action a.arrival a.load a.limit a.period)
-          c.in-ok-check-action.ensures.answer c.in-Some.ensures.answer.1
-          c.counted-amount-amount.ensures.answer c.saturating-sub.ensures c.last-end-end.ensures.answer
+          c.in_ok-check_action.ensures.answer c.in-Some.ensures.answer.1
+          c.counted_amount-amount.ensures.answer c.saturating_sub.ensures c.last_end-end.ensures.answer
           c.if-end-gt-HORIZON.true;
     }
 
@@ -73,7 +73,7 @@ returns g c =
     let a = c.args in
     record {
       answer = within (g.R.ReleaseRule.amount a.rule.now) (action a.arrival a.load a.limit a.period)
-          c.in-ok-check-action.ensures.answer c.in-Some.ensures.answer.1
-          c.counted-amount-amount.ensures.answer c.saturating-sub.ensures c.last-end-end.ensures.answer
+          c.in_ok-check_action.ensures.answer c.in-Some.ensures.answer.1
+          c.counted_amount-amount.ensures.answer c.saturating_sub.ensures c.last_end-end.ensures.answer
           c.if-end-gt-HORIZON.false;
     }

@@ -12,8 +12,8 @@ near limit p a b h = grind (arith, nat_tests)
 part : (limit p d : ℕ) → d ≤ p → limit * d / p ≤ limit
 part limit p d h = div-le_of_le-mul p (omega (arith, mul-le-mul_left limit h, mul_comm limit p))
 
-pub overflow-cast-result-3 : goal.overflow-cast-result-3
-overflow-cast-result-3 c =
+pub overflow_cast-result-3 : goal.overflow_cast-result-3
+overflow_cast-result-3 c =
     let a = c.args in
-    let h = near a.limit a.period a.arrival a.boundary c.if-not-in-range.ensures.answer in
+    let h = near a.limit a.period a.arrival a.boundary c.if-not-in_range.ensures.answer in
     omega (arith, part a.limit a.period (a.boundary - a.arrival) h)
