@@ -4,7 +4,7 @@ ghost use Rattle.board.specs.Boards.{Agrees, Tied, model};
 ghost use Rattle.queues.specs.Dues.{First};
 ghost use Rattle.slots.specs.Marks.{closing};
 ghost use Rattle.slots.specs.Slots.{closed, pick};
-ghost use Rattle.slots.specs.Slots.{serve as servedSlots};
+ghost use Rattle.slots.specs.Slots.{serve as served_slots};
 ghost use Rattle.slots.specs.Steps.{Punctual, ServesAtWork, judged, number, sets, slot_of, tick_after, tick_refusal, ticked};
 ghost use Rattle.board.specs.Fits.{AllFit};
 
@@ -21,7 +21,7 @@ impl<R: ReleaseRule, Q: Queue, C: Queue> Board<R, Q, C> {
     fn serve(&mut self) -> Option<u8>
         requires { Agrees Q.Queue C.Queue self.old }
         ensures answer { result ≡ number (pick self.old.table.slots) }
-        ensures slots { self.new.table.slots ≡ servedSlots self.old.table.slots }
+        ensures slots { self.new.table.slots ≡ served_slots self.old.table.slots }
         ensures clock { self.new.clock ≡ self.old.clock }
         ensures held { self.new.held ≡ self.old.held }
         ensures rule { self.new.rule ≡ self.old.rule }

@@ -17,7 +17,7 @@ skip-requires g c = record {
 pub unreachable-requires : goal.unreachable-requires
 unreachable-requires g c =
     last_refused (model c.args.self.now) c.args.count c.reach-ticks.result c.reach-ticks.ensures.answer c.requires.whole.sound c.if-count-lt1.false c.if-self-ge-HORIZON.false
-    (model c.skip.new.self) c.skip.ensures.after c.in-Err.-why c.in-Err.ensures.answer
+    (model c.skip.new.self) c.skip.ensures.after c.in-Err._why c.in-Err.ensures.answer
 
 pub returns : goal.returns
 returns g c =

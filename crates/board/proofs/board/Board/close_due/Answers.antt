@@ -60,7 +60,7 @@ loop-e-preserved g c =
     let h = first_here t o.clock m.fit e c.in-Some.ensures.answer c.if-e-self.false in (
       c.close_first.ensures.tied,
       turn_next o.clock c.args.self.now.table.slots o.table.slots c.loop-e.released c.loop-e.ended m e h c.close_first.new.self.clock c.close_first.new.self.table.slots c.close_first.ensures.clock c.close_first.ensures.slots
-          c.in-Next.-end (sym c.close_first.ensures.answer ∙ c.in-Next.is) c.with_bit-released.result (c.with_bit-released.ensures.answer.here (omega arith)) c.with_bit-released.ensures.answer.others (omega (arith, c.with_bit-released.type_inv)),
+          c.in-Next._end (sym c.close_first.ensures.answer ∙ c.in-Next.is) c.with_bit-released.result (c.with_bit-released.ensures.answer.here (omega arith)) c.with_bit-released.ensures.answer.others (omega (arith, c.with_bit-released.type_inv)),
       c.close_first.ensures.clock ∙ c.loop-e.invariant.2,
       c.close_first.ensures.held ∙ c.loop-e.invariant.3,
       c.close_first.ensures.rule ∙ c.loop-e.invariant.4,

@@ -32,17 +32,17 @@ overflow_mul-cap g c =
     let m = mul-le-mul a b in
     omega arith
 
-pub returns-in_err-opening : goal.returns-in_err-opening
-returns-in_err-opening g c =
+pub returns-in_err-opening-in-Resting : goal.returns-in_err-opening-in-Resting
+returns-in_err-opening-in-Resting g c =
     let o = c.args.self.now in
     let m : Model = model o in
     let rule = g.R.ReleaseRule.amount o.rule in
     let s = c.args.server in
     let k = arriving m c.args.load c.args.limit c.args.period in
     let v = sym c.in_ok-check_action.ensures.answer in
-    let past = opening_past rule k v c.in_err-opening.field-0.0 c.in_err-opening.ensures.answer in
+    let past = opening_past rule k v c.in_err-opening-in-Resting.field-0.0 c.in_err-opening-in-Resting.ensures.answer in
     let no = start_past rule m s k (sym c.in_ok-check_server.ensures.answer) v c.in-Resting.cap c.in-Resting.is c.if-cap-period.false past.1 in
-    let p = err_from_is_err_and c.from_residual-in_err-opening.result c.from_residual-in_err-opening.ensures.1 in
+    let p = err_from_is_err_and c.from_residual-in_err-opening-in-Resting.result c.from_residual-in_err-opening-in-Resting.ensures.1 in
     record {
       answer = rw (p.1, p.2) (ap Err past.0 ∙ ap (λ (w : Option Refusal). judged w (forecast rule k)) (sym no));
       after = ap (λ (w : Option Refusal). changed w m (put m s (Working (opened rule (cap_of (slot_of m.slots s)) k)))) (sym no);
@@ -56,7 +56,7 @@ first_work-work-requires g c =
     let o = c.args.self.now in
     let rule = g.R.ReleaseRule.amount o.rule in
     let k = arriving (model o) c.args.load c.args.limit c.args.period in
-    let made = opening_made rule k (sym c.in_ok-check_action.ensures.answer) c.in_ok-opening.opening c.in_ok-opening.ensures.answer in
+    let made = opening_made rule k (sym c.in_ok-check_action.ensures.answer) c.in_ok-opening-in-Resting.opening c.in_ok-opening-in-Resting.ensures.answer in
     let from = forecast_from rule k in
     let same = ap (λ (p : Opening). p.boundary) made.0 in
     let early = made.1 in
@@ -68,7 +68,7 @@ begin-requires g c =
     let rule = g.R.ReleaseRule.amount o.rule in
     let k = arriving (model o) c.args.load c.args.limit c.args.period in
     let v = sym c.in_ok-check_action.ensures.answer in
-    let made = opening_made rule k v c.in_ok-opening.opening c.in_ok-opening.ensures.answer in
+    let made = opening_made rule k v c.in_ok-opening-in-Resting.opening c.in_ok-opening-in-Resting.ensures.answer in
     let begins = opening rule (g.met.R.ReleaseRule.share o.rule) k c.in-Resting.cap (ranged k v) c.if-cap-period.false made.1 in
     let work : c.first_work-work.result ≡ opened rule c.in-Resting.cap k = c.first_work-work.ensures.answer ∙ ap (opened_by c.in-Resting.cap k) made.0 in
     let end = ap (λ (w : Work). w.end) work in
@@ -81,8 +81,8 @@ begin-requires g c =
       end = omega arith;
     }
 
-pub returns-in_ok-opening : goal.returns-in_ok-opening
-returns-in_ok-opening g c =
+pub returns-in_ok-opening-in-Resting : goal.returns-in_ok-opening-in-Resting
+returns-in_ok-opening-in-Resting g c =
     let o = c.args.self.now in
     let xs = o.table.slots in
     let m : Model = model o in
@@ -93,7 +93,7 @@ returns-in_ok-opening g c =
     let k = arriving m c.args.load c.args.limit c.args.period in
     let here = sym c.in_ok-check_server.ensures.answer in
     let v = sym c.in_ok-check_action.ensures.answer in
-    let made = opening_made rule k v c.in_ok-opening.opening c.in_ok-opening.ensures.answer in
+    let made = opening_made rule k v c.in_ok-opening-in-Resting.opening c.in_ok-opening-in-Resting.ensures.answer in
     let begins = opening rule (g.met.R.ReleaseRule.share o.rule) k «cap» (ranged k v) c.if-cap-period.false made.1 in
     let work : c.first_work-work.result ≡ opened rule «cap» k = c.first_work-work.ensures.answer ∙ ap (opened_by «cap» k) made.0 in
     let is : get_or xs (s - 1) Absent ≡ Resting «cap» = c.in-Resting.is in
