@@ -1,5 +1,5 @@
 -- What a trace counts: ticks by the instant at which they begin.
-use Rattle.std.proofs.Common.{◌≡◌, ℕ, ◌+◌, ◌<◌, ◌≤◌, Bool, true, false, cond, ◌&&◌, ltb, leb, ◌⊎◌, refl, ap, ◌∙◌, ⊎_elim, arith}
+use Rattle.std.proofs.Common.{◌≡◌, ℕ, ◌+◌, ◌<◌, ◌≤◌, Bool, true, false, cond, ◌&&◌, ltb, leb, refl, ap, ◌∙◌, ⊎_elim, arith}
 use Rattle.share.specs.Answers.{timed, told}
 use Rattle.share.specs.Traces.{Trace, clock_of, count, nothing, said}
 use Rattle.share.specs.declared.calls.Answer.{Answer}

@@ -1,5 +1,5 @@
 -- The share law holds of every trace of single ticks that a board leads to.
-use Rattle.std.proofs.Common.{◌≡◌, ℕ, zero, suc, ◌+◌, ◌-◌, ◌<◌, ◌≤◌, true, false, ◌&&◌, eqb, ◌⊎◌, sym, refl, ap, ◌∙◌, subst, inl, inr, ⊎_elim, arith}
+use Rattle.std.proofs.Common.{◌≡◌, ℕ, zero, suc, ◌+◌, ◌-◌, ◌<◌, ◌≤◌, true, false, ◌&&◌, eqb, sym, refl, ap, ◌∙◌, subst, inl, inr, ⊎_elim, arith}
 use Rattle.release.proofs.Boundaries.{boundary_le, boundary_order, completes_once, first_from, forecast_is, no_less, no_more}
 use Rattle.release.specs.Actions.{Action, Completes, Meaning, action, amount, begins, boundary, due, forecast}
 use Rattle.release.specs.Rules.{WithinShare}

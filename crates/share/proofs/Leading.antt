@@ -1,5 +1,5 @@
 -- Traces of single ticks, and that they tell the board that they lead to.
-use Rattle.std.proofs.Common.{◌≡◌, ℕ, zero, suc, Bool, true, false, not, ◌⊎◌, List, replicate, Some, None, Option, sym, refl, ap, ◌∙◌, subst, ⊎_elim}
+use Rattle.std.proofs.Common.{◌≡◌, ℕ, zero, suc, Bool, true, false, not, List, replicate, Some, None, Option, sym, refl, ap, ◌∙◌, subst, ⊎_elim}
 use Rattle.limits.specs.Ranges.{servers}
 use Rattle.limits.specs.declared.refusal.Refusal.{Refusal}
 use Rattle.release.specs.Actions.{Meaning, forecast}

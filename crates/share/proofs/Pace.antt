@@ -1,5 +1,5 @@
 -- One slot, and what a trace tells of its server.
-use Rattle.std.proofs.Common.{◌≡◌, ℕ, suc, ◌+◌, ◌-◌, ◌<◌, ◌≤◌, Bool, true, false, cond, not, eqb, ◌⊎◌, sym, refl, ap, ◌∙◌, ⊎_elim, arith}
+use Rattle.std.proofs.Common.{◌≡◌, ℕ, suc, ◌+◌, ◌<◌, ◌≤◌, Bool, true, false, cond, not, eqb, sym, refl, ap, ◌∙◌, ⊎_elim, arith}
 use Rattle.release.proofs.Boundaries.{boundary_is, first_below, first_from, first_none}
 use Rattle.release.proofs.Values.{Ranged}
 use Rattle.release.specs.Actions.{Action, Completes, Meaning, boundary, due, first_boundary_of}

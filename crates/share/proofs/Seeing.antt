@@ -1,5 +1,5 @@
 -- What a trace tells of one server, and what one more answer makes of it.
-use Rattle.std.proofs.Common.{◌≡◌, ℕ, ◌+◌, ◌≤◌, true, false, cond, eqb, ◌⊎◌, sym, refl, ap, ◌∙◌, ⊎_elim, add-zero, arith}
+use Rattle.std.proofs.Common.{◌≡◌, ℕ, ◌+◌, ◌≤◌, true, false, cond, eqb, sym, refl, ap, ◌∙◌, ⊎_elim, add-zero, arith}
 use Rattle.release.specs.Actions.{Action, action}
 use Rattle.share.proofs.Counting.{count_idle, count_none, count_one, count_past}
 use Rattle.share.proofs.Pace.{Seen, closed_by, served_by}
