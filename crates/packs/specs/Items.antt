@@ -1,5 +1,5 @@
 -- The items of a pack.
-use Rattle.std.specs.Prelude.{◌≡◌, ℕ, ◌+◌, ◌*◌, ◌<◌, ◌≤◌, ◌⊎◌, List, length, take, drop, Option, MatchOption, slice_index}
+use Rattle.std.specs.Prelude.{◌≡◌, ℕ, ◌+◌, ◌*◌, ◌<◌, ◌≤◌, List, length, take, drop, Option, MatchOption, slice_index}
 use Rattle.std.specs.Borrow.{Bor}
 
 -- the length in the first four bytes

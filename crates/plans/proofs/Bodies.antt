@@ -1,6 +1,5 @@
 -- The records of servers, and what the checks find among them.
-use Rattle.std.proofs.Common.{◌≡◌, ℕ, ◌-◌, Bool, true, false, cond, ◌||◌, eqb, ltb, List, [], ◌∷◌, ◌++◌, map, length, get_or, take, is_some, Some, None, filter, Option, sym, refl, ap, ◌∙◌, append-nil, arith}
-use Rattle.limits.specs.declared.refusal.Refusal.{Refusal}
+use Rattle.std.proofs.Common.{◌≡◌, ℕ, ◌-◌, true, false, cond, eqb, ltb, List, [], ◌∷◌, ◌++◌, map, length, get_or, take, is_some, Some, filter, sym, refl, ap, ◌∙◌, arith}
 use Rattle.plans.proofs.Lasts.{last_of_push, split_last}
 use Rattle.plans.specs.Faults.{any_server, check, is_server, latest, record_check}
 use Rattle.plans.specs.Numbers.{has, numbered}

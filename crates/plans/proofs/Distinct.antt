@@ -1,5 +1,5 @@
 -- Lists whose numbers are distinct, and lists that pass a test: one more at the end, and one in the middle.
-use Rattle.std.proofs.Common.{◌≡◌, ℕ, Bool, true, false, cond, not, ◌&&◌, ◌||◌, eqb, List, [], ◌∷◌, ◌++◌, is_some, Some, sym, refl, ap, ◌∙◌}
+use Rattle.std.proofs.Common.{◌≡◌, ℕ, Bool, true, false, cond, not, ◌||◌, eqb, List, [], ◌∷◌, ◌++◌, is_some, Some, sym, refl, ap, ◌∙◌}
 use Rattle.plans.specs.Numbers.{all, distinct, has, numbered}
 use Rattle.std.proofs.lemmas.Bool.{and_from, and_parts, both_ways, eq-eqb, ne_eqb, not_from_false, not-true, or_from, or_left, or_parts, or_right}
 

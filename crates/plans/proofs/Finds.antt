@@ -1,7 +1,7 @@
 -- The search for a number in a list, one item after another.
 use Rattle.std.proofs.Common.{◌≡◌, ℕ, ◌+◌, ◌<◌, ◌≤◌, cond, eqb, List, length, get_or, drop, Some, None, sym, ap, ◌∙◌}
 use Rattle.plans.specs.Numbers.{numbered}
-use Rattle.std.proofs.lemmas.List.{at_drop_all, at_drop_more, get_or_read}
+use Rattle.std.proofs.lemmas.List.{at_drop_all, at_drop_more}
 use Rattle.std.proofs.lemmas.Bool.{cond-false, cond-true, eq-eqb, ne_eqb}
 
 module _ {T : Type 0} (number : T → ℕ) (n : ℕ) (xs : List T) (i : ℕ) where

@@ -1,14 +1,13 @@
 -- What one more record does to the servers read so far.
-use Rattle.std.proofs.Common.{◌≡◌, ℕ, ◌+◌, ◌<◌, ◌≤◌, Bool, true, false, ◌&&◌, ltb, List, [], ◌∷◌, ◌++◌, map, length, None, sym, refl, ap, ◌∙◌, subst}
+use Rattle.std.proofs.Common.{◌≡◌, ℕ, ◌<◌, true, false, ltb, List, [], ◌∷◌, ◌++◌, map, length, None, sym, ap, ◌∙◌}
 use Rattle.plans.proofs.Bodies.{body_push}
 use Rattle.plans.proofs.Distinct.{all_front, all_middle, all_push, distinct_front, distinct_middle, distinct_push}
 use Rattle.plans.proofs.Lasts.{last_of_push}
 use Rattle.plans.proofs.Passing.{action_passed, server_passed}
-use Rattle.plans.specs.Faults.{record_check}
 use Rattle.plans.specs.Numbers.{all, distinct, has}
 use Rattle.limits.specs.Ranges.{servers, unit}
 use Rattle.plans.specs.Plans.{action_record, actions_of, body_records, own_records, server_record, valid_action, valid_server, valid_servers, within}
-use Rattle.plans.specs.Steps.{ActionAdded, Added, ServerAdded, check_after, entry_record, last_actions}
+use Rattle.plans.specs.Steps.{Added, check_after, entry_record, last_actions}
 use Rattle.plans.specs.declared.entry.Entry.{Entry}
 use Rattle.plans.specs.declared.entry.Entry.TheVariants.{NewServer, NewAction}
 use Rattle.plans.specs.declared.server.Action.{Action}

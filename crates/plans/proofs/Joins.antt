@@ -1,6 +1,6 @@
 -- What is joined from a list, item by item.
 use Rattle.std.proofs.Common.{◌≡◌, ℕ, zero, suc, ◌+◌, ◌<◌, ◌≤◌, List, [], ◌∷◌, ◌++◌, length, get_or, take, sym, ap, ◌∙◌, arith}
-use Rattle.std.proofs.lemmas.List.{append_assoc, flat_map_more, length-append, take_more}
+use Rattle.std.proofs.lemmas.List.{flat_map_more, length-append, take_more}
 use Rattle.std.specs.List.{flat_map}
 
 module _ {X Y : Type 0} (f : X → List Y) where

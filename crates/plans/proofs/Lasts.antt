@@ -1,5 +1,5 @@
 -- The last server of a list, and one more action in it.
-use Rattle.std.proofs.Common.{◌≡◌, ℕ, zero, suc, ◌+◌, ◌-◌, ◌<◌, ◌≤◌, List, [], ◌∷◌, ◌++◌, length, get_or, take, set, sym, refl, ap, ◌∙◌, arith}
+use Rattle.std.proofs.Common.{◌≡◌, ℕ, ◌+◌, ◌-◌, ◌<◌, List, [], ◌∷◌, ◌++◌, length, get_or, take, set, sym, refl, ap, ◌∙◌, arith}
 use Rattle.plans.specs.Plans.{actions_of}
 use Rattle.plans.specs.Steps.{ActionAdded, last_actions}
 use Rattle.plans.specs.declared.server.Action.{Action}

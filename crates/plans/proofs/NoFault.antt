@@ -1,5 +1,5 @@
 -- The encoding of a valid plan has no fault.
-use Rattle.std.proofs.Common.{◌≡◌, ℕ, zero, suc, ◌+◌, ◌*◌, ◌^◌, ◌<◌, ◌≤◌, Bool, true, false, ◌&&◌, ltb, leb, List, [], ◌∷◌, ◌++◌, map, length, get_or, take, Some, None, Err, MatchBool, filter, sym, refl, ap, ◌∙◌, subst, arith, below_more}
+use Rattle.std.proofs.Common.{◌≡◌, ℕ, zero, suc, ◌+◌, ◌*◌, ◌<◌, ◌≤◌, true, false, ltb, List, [], ◌∷◌, ◌++◌, map, length, get_or, take, None, Err, MatchBool, filter, sym, refl, ap, ◌∙◌, subst, arith, below_more}
 use Rattle.limits.specs.Ranges.{most_ticks, servers, unit}
 use Rattle.limits.specs.declared.fault.Fault.{Fault}
 use Rattle.limits.specs.declared.refusal.Refusal.TheVariants.{PlanSize}
@@ -7,7 +7,7 @@ use Rattle.plans.proofs.Bodies.{any_own, body_push, check_body, has_map, latest_
 use Rattle.plans.proofs.Distinct.{all_middle, distinct_middle}
 use Rattle.plans.proofs.Passing.{action_passes, server_passes}
 use Rattle.plans.proofs.Words.{Fit, length_written, record_written, records_written}
-use Rattle.plans.specs.Faults.{FirstFault, FirstRecord, InOrder, any_server, check, count_of, is_server, latest, plan_fault_of, records, sized}
+use Rattle.plans.specs.Faults.{FirstRecord, InOrder, any_server, check, count_of, is_server, latest, plan_fault_of, records, sized}
 use Rattle.plans.specs.Numbers.{all, distinct, has}
 use Rattle.plans.specs.Plans.{action_record, actions_of, body_records, encoding, head_record, own_records, plan_records, server_record, valid, valid_action, valid_server, valid_servers, within}
 use Rattle.plans.specs.Reads.{NotRead, servers_of}
@@ -15,7 +15,6 @@ use Rattle.plans.specs.Records.{record_at}
 use Rattle.plans.specs.Steps.{ReadServers}
 use Rattle.limits.specs.declared.fault.ReadError.{ReadError}
 use Rattle.limits.specs.declared.fault.ReadError.TheVariants.{Fault as AtFault, NoMemory}
-use Rattle.plans.specs.declared.plan.Plan.{Plan}
 use Rattle.plans.specs.declared.record.Record.{Record}
 use Rattle.plans.specs.declared.server.Action.{Action}
 use Rattle.plans.specs.declared.server.Server.{Server}

@@ -1,7 +1,7 @@
 -- Which servers and actions pass the checks of their records.
-use Rattle.std.proofs.Common.{◌≡◌, ℕ, ◌<◌, Bool, true, false, not, ◌&&◌, eqb, ltb, Some, None, sym, refl, ◌∙◌, arith}
+use Rattle.std.proofs.Common.{◌≡◌, ℕ, ◌<◌, Bool, true, false, not, eqb, ltb, None, refl, arith}
 use Rattle.limits.proofs.Passed.{none_or, none_refuse, or_none, refuse_none}
-use Rattle.limits.specs.Checks.{action_check, cap_check, refuse, server_check}
+use Rattle.limits.specs.Checks.{action_check, cap_check, server_check}
 use Rattle.limits.specs.Ranges.{most_ticks, outside, servers, unit}
 use Rattle.plans.specs.Faults.{record_check}
 use Rattle.plans.specs.Plans.{action_record, valid_action, within}

@@ -1,8 +1,8 @@
 -- Two plans with the same bytes say the same.
-use Rattle.std.proofs.Common.{◌≡◌, ℕ, true, cond, List, [], ◌∷◌, ◌++◌, map, drop, sym, refl, ap, ◌∙◌, append-nil}
+use Rattle.std.proofs.Common.{◌≡◌, ℕ, cond, List, [], ◌∷◌, ◌++◌, map, drop, sym, refl, ap, ◌∙◌, append-nil}
 use Rattle.plans.proofs.NoFault.{encoding_records}
 use Rattle.plans.specs.Faults.{count_of, is_server, records}
-use Rattle.plans.specs.Plans.{action_record, actions_of, body_records, encoding, own_records, plan_records, server_record, valid}
+use Rattle.plans.specs.Plans.{action_record, actions_of, body_records, server_record}
 use Rattle.plans.specs.Reads.{Reads, Told, contents, encoding_of, servers_of}
 use Rattle.plans.specs.declared.plan.Plan.{Plan}
 use Rattle.plans.specs.declared.record.Record.{Record}

@@ -1,5 +1,5 @@
 -- What is wrong with bytes that are no plan: the checks in their order, and the first that fails.
-use Rattle.std.specs.Prelude.{◌≡◌, ℕ, ◌*◌, ◌<◌, Bool, true, false, cond, not, ◌&&◌, ◌||◌, List, [], ◌∷◌, map, length, Some, None, MatchBool, filter, Option, ◌==◌, nat_le}
+use Rattle.std.specs.Prelude.{◌≡◌, ℕ, ◌*◌, ◌<◌, Bool, false, cond, not, ◌&&◌, ◌||◌, List, [], ◌∷◌, map, length, Some, None, MatchBool, filter, Option, ◌==◌, nat_le}
 use Rattle.limits.specs.Checks.{action_check, cap_check, refuse, server_check}
 use Rattle.limits.specs.Refusals.{number as refusal_number_of}
 use Rattle.limits.specs.declared.fault.Fault.{Fault}
