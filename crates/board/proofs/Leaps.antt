@@ -3,7 +3,7 @@ use Rattle.std.proofs.Common.{◌≡◌, ℕ, ◌+◌, List, get_or, Some, None,
 use Rattle.slots.specs.declared.slot.Slot.{Slot}
 use Rattle.slots.specs.declared.slot.Slot.TheVariants.{Absent, Resting, Working}
 use Rattle.slots.specs.Advances.{Allowed, turns}
-use Rattle.slots.specs.Marks.{owed, served_by}
+use Rattle.slots.specs.Marks.{served_by}
 use Rattle.slots.specs.Slots.{Picked, Sound, cap_of, total}
 use Rattle.slots.specs.Steps.{Model}
 use Rattle.slots.proofs.Picking.{picked_is}

@@ -1,6 +1,6 @@
 -- How far an advance reaches, read off the calendar.
 use Rattle.std.proofs.Common.{◌≡◌, ℕ, suc, ◌+◌, ◌-◌, ◌<◌, ◌≤◌, min, List, get_or, Some, None, sym, refl, ◌∙◌, arith}
-use Rattle.std.specs.List.{AllByRecursion as All}
+use Rattle.std.specs.List.{AllByRecursion}
 use Rattle.std.proofs.ByRecursion.{All-from_get_or}
 use Rattle.queues.specs.declared.entry.Entry.{Entry}
 use Rattle.queues.specs.declared.queue.Queue.{Ghosts}
@@ -30,8 +30,8 @@ fine_far t Absent h = tt
 fine_far t (Resting c) h = tt
 fine_far t (Working w) h = omega arith
 
-module _ {X Y : Type 0} {q : Ghosts X} {c : Ghosts Y} {ready : X} {calendar : Y} {xs : List Slot} (t : Tied q c ready calendar xs) (clock most : ℕ) (fine : All (Fine clock) xs) where
-  far_all : (f : ℕ) → ((k d : ℕ) → c.due calendar k ≡ Some d → f ≤ d) → All (Far f) xs
+module _ {X Y : Type 0} {q : Ghosts X} {c : Ghosts Y} {ready : X} {calendar : Y} {xs : List Slot} (t : Tied q c ready calendar xs) (clock most : ℕ) (fine : AllByRecursion (Fine clock) xs) where
+  far_all : (f : ℕ) → ((k d : ℕ) → c.due calendar k ≡ Some d → f ≤ d) → AllByRecursion (Far f) xs
   far_all f h = All-from_get_or (Far f) xs Absent (λ i _. far_from f (get_or xs i Absent) (λ d e. h (suc i) d (t.working (suc i) ∙ e)))
 
   -- nobody works

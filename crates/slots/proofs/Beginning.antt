@@ -1,11 +1,11 @@
 -- The empty scheduler is sound.
 use Rattle.std.proofs.Common.{◌≡◌, ℕ, zero, suc, replicate, refl, arith}
-use Rattle.std.specs.List.{AllByRecursion as All}
+use Rattle.std.specs.List.{AllByRecursion}
 use Rattle.slots.specs.declared.slot.Slot.{Slot}
 use Rattle.slots.specs.declared.slot.Slot.TheVariants.{Absent}
 use Rattle.slots.specs.Slots.{total, cap_of, demand, Fine, Sound}
 
-none_there : (n t : ℕ) → All (Fine t) (replicate n Absent)
+none_there : (n t : ℕ) → AllByRecursion (Fine t) (replicate n Absent)
 none_there zero t = tt
 none_there (suc n) t = (tt, none_there n t)
 

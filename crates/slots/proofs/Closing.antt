@@ -1,6 +1,6 @@
 -- The stretches that end at an instant are closed.
 use Rattle.std.proofs.Common.{◌≡◌, ℕ, ◌+◌, ◌-◌, ◌*◌, ◌≤◌, min, false, cond, ◌&&◌, eqb, ltb, leb, List, [], ◌∷◌, map, refl, ap, inl, inr, mul-add, arith}
-use Rattle.std.specs.List.{AllByRecursion as All}
+use Rattle.std.specs.List.{AllByRecursion}
 use Rattle.std.proofs.lemmas.Bool.{cond_both, cond-true, leb-true, le-leb, ltb-true, lt-ltb, both_ways, cases_lt, cases_Bool, eqb-true, eqb-false, and_parts, and_from, eq-eqb}
 use Rattle.std.proofs.ByRecursion.{All-weaker}
 use Rattle.slots.specs.declared.slot.Work.{Work}
@@ -19,7 +19,7 @@ closed_fine t (Working w) h =
     cond_both (eqb w.left 0) (Resting w.cap) (Working (renewed w)) (Fine (t + 1)) (λ z. h.0) (λ z. omega arith))
     (λ e. let off = eqb-false w.end (t + 1) e in omega arith)
 
-pub all_closed : (t : ℕ) (xs : List Slot) → All (Fine t) xs → All (Fine (t + 1)) (map (closed (t + 1)) xs)
+pub all_closed : (t : ℕ) (xs : List Slot) → AllByRecursion (Fine t) xs → AllByRecursion (Fine (t + 1)) (map (closed (t + 1)) xs)
 all_closed t [] a = tt
 all_closed t (x ∷ xs) a = (closed_fine t x a.0, all_closed t xs a.1)
 
@@ -61,7 +61,7 @@ closed_balance t d l (Working w) h =
     (λ z. let new = renewed_demand t d w h le in omega arith))
     (λ e. omega arith)
 
-pub closed_bound : (t : ℕ) (xs : List Slot) → All (Fine t) xs → Bounded (t + 1) xs → Bounded (t + 1) (map (closed (t + 1)) xs)
+pub closed_bound : (t : ℕ) (xs : List Slot) → AllByRecursion (Fine t) xs → Bounded (t + 1) xs → Bounded (t + 1) (map (closed (t + 1)) xs)
 closed_bound t xs a b d l =
     let q = total_balance (Fine t) (demand d) busy (closed (t + 1)) (d - (t + 1)) (closed_balance t d l) xs a in
     let r = b d l in
@@ -83,7 +83,7 @@ on_time t (Working w) h =
       | inr e ↦ e
     ]
 
-pub none_late : (t : ℕ) (xs : List Slot) → Bounded t xs → All (λ s. late t s ≡ false) xs
+pub none_late : (t : ℕ) (xs : List Slot) → Bounded t xs → AllByRecursion (λ s. late t s ≡ false) xs
 none_late t xs b =
     let q = b t (omega arith) in
     let z : t - t ≡ 0 = omega arith in

@@ -1,6 +1,6 @@
 -- The slot that `pick` names is the one to serve.
 use Rattle.std.proofs.Common.{◌≡◌, ℕ, zero, suc, ◌<◌, ◌≤◌, true, false, ◌&&◌, leb, List, [], ◌∷◌, get_or, Some, None, Option, refl, ap, inl, inr, arith}
-use Rattle.std.specs.List.{AllByRecursion as All}
+use Rattle.std.specs.List.{AllByRecursion}
 use Rattle.std.proofs.lemmas.Bool.{cond_both, and_parts, and_cases, leb-true, leb-false, both_ways, cases_order}
 use Rattle.std.proofs.ByRecursion.{All-weaker, All-get_or}
 use Rattle.slots.specs.declared.slot.Slot.{Slot}
@@ -38,7 +38,7 @@ clash xs i j p q l =
     let b = All-get_or (λ y. waits y ≡ true → end_of (get_or xs i Absent) ≤ end_of y) xs j Absent q.within p.least q.waiting in
     omega arith
 
-idle : (xs : List Slot) (i : ℕ) → All (λ y. waits y ≡ false) xs → Chosen xs i → ⊥
+idle : (xs : List Slot) (i : ℕ) → AllByRecursion (λ y. waits y ≡ false) xs → Chosen xs i → ⊥
 idle xs i p q = both_ways (waits (get_or xs i Absent)) (All-get_or (λ y. waits y ≡ false) xs i Absent q.within p) q.waiting
 
 picked_same : (xs : List Slot) (o o' : Option ℕ) → Picked xs o → Picked xs o' → o ≡ o'

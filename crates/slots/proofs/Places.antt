@@ -1,6 +1,6 @@
 -- Lists of slots by place: sets of servers, and what a tick makes of one slot.
 use Rattle.std.proofs.Common.{◌≡◌, ℕ, zero, suc, ◌+◌, ◌-◌, ◌*◌, ◌/◌, ◌%◌, Bool, true, false, cond, eqb, List, [], ◌∷◌, map, length, get_or, set, Some, None, Option, sym, refl, ap, ◌∙◌, subst, ⊎_elim, arith}
-use Rattle.std.specs.List.{AllByRecursion as All}
+use Rattle.std.specs.List.{AllByRecursion}
 use Rattle.std.proofs.lemmas.List.{length-set, get_or-set_same, get_or-set_other}
 use Rattle.std.proofs.lemmas.Bool.{cond-true, cond-false, eqb-true, eq-eqb, ne_eqb, both_ways, cases_eq}
 use Rattle.slots.specs.declared.slot.Slot.{Slot}
@@ -26,11 +26,11 @@ has_mask P h [] i = ap (λ n. eqb n 1) (bit_of_zero i) ∙ sym h
 has_mask P h (x ∷ xs) zero = last (P x) (mask P xs)
 has_mask P h (x ∷ xs) (suc i) = ap (λ n. eqb (bit n i) 1) (front (P x) (mask P xs)) ∙ has_mask P h xs i
 
-pub mask_none : (P : Slot → Bool) (xs : List Slot) → All (λ x. P x ≡ false) xs → mask P xs ≡ 0
+pub mask_none : (P : Slot → Bool) (xs : List Slot) → AllByRecursion (λ x. P x ≡ false) xs → mask P xs ≡ 0
 mask_none P [] a = refl
 mask_none P (x ∷ xs) a = let r = mask_none P xs a.1 in rw a.0 (omega arith)
 
-pub all_at : (P : Slot → Type 0) → P Absent → (xs : List Slot) → All P xs → (i : ℕ) → P (get_or xs i Absent)
+pub all_at : (P : Slot → Type 0) → P Absent → (xs : List Slot) → AllByRecursion P xs → (i : ℕ) → P (get_or xs i Absent)
 all_at P h [] a i = h
 all_at P h (x ∷ xs) a zero = a.0
 all_at P h (x ∷ xs) a (suc i) = all_at P h xs a.1 i

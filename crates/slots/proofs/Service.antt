@@ -1,6 +1,6 @@
 -- One tick of service.
 use Rattle.std.proofs.Common.{◌≡◌, ℕ, suc, ◌+◌, ◌-◌, ◌*◌, ◌<◌, ◌≤◌, true, false, leb, List, [], ◌∷◌, get_or, Some, None, Option, sym, refl, ◌∙◌, inl, inr, mul-le-mul_left, mul-suc, arith}
-use Rattle.std.specs.List.{AllByRecursion as All}
+use Rattle.std.specs.List.{AllByRecursion}
 use Rattle.std.proofs.lemmas.Bool.{cond_both, cond-true, cond-false, leb-true, le-leb, lt-leb, ltb-true, lt-ltb, both_ways, cases_lt}
 use Rattle.std.proofs.ByRecursion.{All-weaker, All-set, All-get_or}
 use Rattle.slots.specs.declared.slot.Slot.{Slot}
@@ -97,7 +97,7 @@ served_bound t xs (Some i) p s d h =
 pub serve_bound : (t : ℕ) (xs : List Slot) → Sound t xs → Bounded (t + 1) (serve xs)
 serve_bound t xs s = served_bound t xs (pick xs) (pick_tells xs) s
 
-pub served_each : (t : ℕ) (xs : List Slot) (o : Option ℕ) → Picked xs o → All (Fine t) xs → All (Fine t) (served_at xs o)
+pub served_each : (t : ℕ) (xs : List Slot) (o : Option ℕ) → Picked xs o → AllByRecursion (Fine t) xs → AllByRecursion (Fine t) (served_at xs o)
 served_each t xs None p a = a
 served_each t xs (Some i) p a = All-set (Fine t) xs i (served (get_or xs i Absent)) (served_fine t (get_or xs i Absent) (All-get_or (Fine t) xs i Absent p.within a)) a
 

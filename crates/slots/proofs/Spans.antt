@@ -1,7 +1,7 @@
 -- The span of an advance is the largest number of ticks that it may make.
 use Rattle.std.proofs.Common.{◌≡◌, ℕ, zero, suc, ◌+◌, ◌-◌, ◌<◌, ◌≤◌, min, Bool, true, false, cond, not, ◌&&◌, eqb, ltb, List, [], ◌∷◌, map, get_or, set, Some, None, Option, sym, refl, ap, ◌∙◌, subst, ⊎_elim, add-zero, arith, set-set}
 use lib.Seq.{set-get_or}
-use Rattle.std.specs.List.{AllByRecursion as All}
+use Rattle.std.specs.List.{AllByRecursion}
 use Rattle.std.proofs.lemmas.List.{length-set, get_or-set_same, get_or-set_other}
 use Rattle.std.proofs.ByRecursion.{All-weaker, All-set, All-from_get_or}
 use Rattle.std.proofs.lemmas.Bool.{cond_both, cond-true, cond-false, and_from, and_left, eq-eqb, ltb-true, lt-ltb, ne_eqb, both_ways, cases_Bool, cases_lt, not_from_false}
@@ -37,7 +37,7 @@ far_closed t Absent h = refl
 far_closed t (Resting c) h = refl
 far_closed t (Working w) h = cond-false _ _ _ (ne_eqb w.end (t + 1) (omega arith))
 
-map_closed : (t : ℕ) (xs : List Slot) → All (Far (t + 2)) xs → map (closed (t + 1)) xs ≡ xs
+map_closed : (t : ℕ) (xs : List Slot) → AllByRecursion (Far (t + 2)) xs → map (closed (t + 1)) xs ≡ xs
 map_closed t [] a = refl
 map_closed t (x ∷ xs) a = let p = far_closed t x a.0 in let q = map_closed t xs a.1 in cc
 
@@ -58,7 +58,7 @@ far_weaker e f l Absent h = h
 far_weaker e f l (Resting c) h = h
 far_weaker e f l (Working w) h = omega arith
 
-far_serve : (e : ℕ) (xs : List Slot) (o : Option ℕ) → All (Far e) xs → All (Far e) (served_at xs o)
+far_serve : (e : ℕ) (xs : List Slot) (o : Option ℕ) → AllByRecursion (Far e) xs → AllByRecursion (Far e) (served_at xs o)
 far_serve e xs None a = a
 far_serve e xs (Some i) a = All-set (Far e) xs i (served (get_or xs i Absent)) (far_served e (get_or xs i Absent) (all_at (Far e) tt xs a i)) a
 
@@ -98,11 +98,11 @@ picked_again b xs (Some i) p h =
 -- b ticks lie ahead in which o is served and nothing ends before the last
 pub record Calm (m : Model) (o : Option ℕ) (b : ℕ) : Type 0 where
   pub picks : pick m.slots ≡ o
-  pub far : All (Far (m.clock + b)) m.slots
+  pub far : AllByRecursion (Far (m.clock + b)) m.slots
   pub owed : Owed b m.slots o
 
 module _ (m : Model) (o : Option ℕ) (b : ℕ) (c : Calm m o (suc (suc b))) where
-  wide : All (Far (m.clock + 2)) (serve m.slots)
+  wide : AllByRecursion (Far (m.clock + 2)) (serve m.slots)
   wide = All-weaker (Far (m.clock + suc (suc b))) (Far (m.clock + 2)) (far_weaker (m.clock + 2) (m.clock + suc (suc b)) (omega arith)) (serve m.slots) (far_serve (m.clock + suc (suc b)) m.slots (pick m.slots) c.far)
 
   pub calm_quiet : (ticked m).sets ≡ nobody
@@ -126,7 +126,7 @@ module _ (m : Model) (o : Option ℕ) (b : ℕ) (c : Calm m o (suc (suc b))) whe
       let ys = served_at m.slots o in
       record {
         picks = ap pick still ∙ sym (picked_is ys o a.0);
-        far = subst (All (Far (m.clock + 1 + suc b))) (sym still) (subst (λ (n : ℕ). All (Far n) ys) e (far_serve (m.clock + suc (suc b)) m.slots o c.far));
+        far = subst (AllByRecursion (Far (m.clock + 1 + suc b))) (sym still) (subst (λ (n : ℕ). AllByRecursion (Far n) ys) e (far_serve (m.clock + suc (suc b)) m.slots o c.far));
         owed = subst (λ (zs : List Slot). Owed (suc b) zs o) (sym still) a.1;
       }
 
@@ -198,19 +198,19 @@ until_end_cap t (Absent ∷ xs) c = until_end_cap t xs c
 until_end_cap t (Resting b ∷ xs) c = until_end_cap t xs c
 until_end_cap t (Working w ∷ xs) c = let r = until_end_cap t xs c in omega arith
 
-until_end_some : (t : ℕ) (xs : List Slot) (c : ℕ) → 1 ≤ c → All (Fine t) xs → 1 ≤ until_end_of t xs c
+until_end_some : (t : ℕ) (xs : List Slot) (c : ℕ) → 1 ≤ c → AllByRecursion (Fine t) xs → 1 ≤ until_end_of t xs c
 until_end_some t [] c h a = h
 until_end_some t (Absent ∷ xs) c h a = until_end_some t xs c h a.1
 until_end_some t (Resting b ∷ xs) c h a = until_end_some t xs c h a.1
 until_end_some t (Working w ∷ xs) c h a = let r = until_end_some t xs c h a.1 in let f = a.0.1 in omega arith
 
-pub until_end_far : (t : ℕ) (xs : List Slot) (c b : ℕ) → b ≤ until_end_of t xs c → All (Fine t) xs → All (Far (t + b)) xs
+pub until_end_far : (t : ℕ) (xs : List Slot) (c b : ℕ) → b ≤ until_end_of t xs c → AllByRecursion (Fine t) xs → AllByRecursion (Far (t + b)) xs
 until_end_far t [] c b h a = tt
 until_end_far t (Absent ∷ xs) c b h a = (tt, until_end_far t xs c b h a.1)
 until_end_far t (Resting k ∷ xs) c b h a = (tt, until_end_far t xs c b h a.1)
 until_end_far t (Working w ∷ xs) c b h a = let f = a.0.1 in (omega arith, until_end_far t xs c b (omega arith) a.1)
 
-pub until_end_from : (t : ℕ) (xs : List Slot) (c b : ℕ) → b ≤ c → All (Far (t + b)) xs → b ≤ until_end_of t xs c
+pub until_end_from : (t : ℕ) (xs : List Slot) (c b : ℕ) → b ≤ c → AllByRecursion (Far (t + b)) xs → b ≤ until_end_of t xs c
 until_end_from t [] c b h f = h
 until_end_from t (Absent ∷ xs) c b h f = until_end_from t xs c b h f.1
 until_end_from t (Resting k ∷ xs) c b h f = until_end_from t xs c b h f.1
@@ -346,7 +346,7 @@ module _ (m : Model) (n k : ℕ) (s : Sound m.clock m.slots) (a : Allowed m n k)
       (λ (h : m.clock + k ≤ w.end). h)
       (cases_lt w.end (m.clock + k))
 
-  spread : All (Far (m.clock + k)) m.slots
+  spread : AllByRecursion (Far (m.clock + k)) m.slots
   spread = All-from_get_or (Far (m.clock + k)) m.slots Absent (λ i _. far_at i (get_or m.slots i Absent) refl (all_at (Fine m.clock) tt m.slots s.each i))
 
   -- the slot to serve, as it is served

@@ -1,6 +1,6 @@
 -- The slots, and what one tick does to them: the server with the least end of stretch among those with amount unserved is served, then the stretches that end are closed.
 use Rattle.std.specs.Prelude.{◌≡◌, ℕ, suc, ◌+◌, ◌-◌, ◌*◌, ◌<◌, ◌≤◌, min, Bool, true, false, cond, ◌&&◌, List, [], ◌∷◌, map, length, Some, None, Option, ◌==◌, nat_le, nat_lt, slice_index_or, slice_set}
-use Rattle.std.specs.List.{AllByRecursion as All}
+use Rattle.std.specs.List.{AllByRecursion}
 use Rattle.limits.specs.Ranges.{unit}
 use Rattle.slots.specs.declared.slot.Work.{Work}
 use Rattle.slots.specs.declared.slot.Slot.{Slot}
@@ -55,12 +55,12 @@ pick (s ∷ ss) = better s ss (pick ss)
 pub record Chosen (xs : List Slot) (i : ℕ) : Type 0 where
   pub within : i < length xs
   pub waiting : waits (slice_index_or xs i Absent) ≡ true
-  pub least : All (λ s. waits s ≡ true → end_of (slice_index_or xs i Absent) ≤ end_of s) xs
+  pub least : AllByRecursion (λ s. waits s ≡ true → end_of (slice_index_or xs i Absent) ≤ end_of s) xs
   pub first : (k : ℕ) → k < i → waits (slice_index_or xs k Absent) ≡ true → end_of (slice_index_or xs i Absent) < end_of (slice_index_or xs k Absent)
 
 -- what a pick says
 abbrev pub Picked : List Slot → Option ℕ → Type 0
-Picked xs None = All (λ s. waits s ≡ false) xs
+Picked xs None = AllByRecursion (λ s. waits s ≡ false) xs
 Picked xs (Some i) = Chosen xs i
 
 -- one tick of service
@@ -98,7 +98,7 @@ late t (Working w) = w.end == t && nat_lt 0 w.unserved
 
 -- the tick that begins at t closes no stretch late
 abbrev pub OnTime : ℕ → List Slot → Type 0
-OnTime t xs = All (λ s. late (t + 1) s ≡ false) (serve xs)
+OnTime t xs = AllByRecursion (λ s. late (t + 1) s ≡ false) (serve xs)
 
 -- a slot at the instant t
 abbrev pub Fine : ℕ → Slot → Type 0
@@ -113,7 +113,7 @@ Bounded t xs = (d : ℕ) → t ≤ d → total (demand d) xs ≤ total busy xs *
 -- the invariant of the slots at the instant t
 pub record Sound (t : ℕ) (xs : List Slot) : Type 0 where
   pub caps : total cap_of xs ≤ unit
-  pub each : All (Fine t) xs
+  pub each : AllByRecursion (Fine t) xs
   pub bound : Bounded t xs
 
 -- a resting slot i begins to work: a first stretch up to b, of a ticks
