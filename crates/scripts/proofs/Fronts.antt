@@ -1,5 +1,5 @@
 -- What stands at the front of a text: one line, and one rest.
-use Rattle.std.proofs.Common.{◌≡◌, ℕ, ◌^◌, ◌<◌, ◌≤◌, Bool, true, ◌&&◌, leb, List, [], ◌∷◌, ◌++◌, get_or, drop, decimal, sym, refl, ap, ◌∙◌, inl, arith}
+use Rattle.std.proofs.Common.{◌≡◌, ℕ, ◌<◌, ◌≤◌, true, leb, List, [], ◌∷◌, ◌++◌, get_or, drop, decimal, sym, ap, ◌∙◌, inl, arith}
 use Rattle.limits.specs.Ranges.{horizon}
 use Rattle.scripts.proofs.Numbers.{same_number}
 use Rattle.scripts.specs.Lines.{command_text, line_text_of, valid_command, valid_line}

@@ -1,8 +1,8 @@
 -- A number at the front of a text, read digit by digit.
-use Rattle.std.proofs.Common.{◌≡◌, ℕ, zero, suc, ◌+◌, ◌-◌, ◌*◌, ◌^◌, ◌<◌, ◌≤◌, ◌⊎◌, List, [], ◌∷◌, ◌++◌, length, get_or, take, drop, decimal, fold, sym, refl, ap, ◌∙◌, subst, ⊎_elim, arith, below_more}
+use Rattle.std.proofs.Common.{◌≡◌, ℕ, zero, suc, ◌+◌, ◌-◌, ◌*◌, ◌^◌, ◌<◌, ◌≤◌, List, [], ◌∷◌, ◌++◌, length, get_or, take, drop, decimal, fold, sym, refl, ap, ◌∙◌, subst, ⊎_elim, arith, below_more}
 use Rattle.scripts.specs.Fields.{Ends}
 use Rattle.std.proofs.lemmas.Fmt.{decimal_digit, decimal_nonempty, decimal-digits_value, digits_decimal, first_decimal, decimal_injective, digits_value-decimal}
-use Rattle.std.proofs.lemmas.List.{drop_at, drop_more, get_or_append_left, get_or_at, get_or_default, get_or-take, length-append, length-take-le, take-append-drop, take-append-le, take_at}
+use Rattle.std.proofs.lemmas.List.{drop_at, drop_more, get_or_append_left, get_or_at, get_or-take, length-append, length-take-le, take-append-drop, take-append-le, take_at}
 use Rattle.std.proofs.lemmas.Str.Parse.{IsNumeralModel, numerals_by_fold, tells_by_index}
 use Rattle.std.proofs.lemmas.List.Sums.{fold_more}
 use Rattle.std.proofs.lemmas.Bool.{cases_lt, cases_order}

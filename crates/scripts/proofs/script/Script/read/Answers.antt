@@ -1,4 +1,4 @@
-use Rattle.std.proofs.Common.{◌≡◌, ◌+◌, ◌<◌, length, vec_items, sym, inl, inr, arith}
+use Rattle.std.proofs.Common.{◌+◌, length, vec_items, sym, inl, inr, arith}
 use Rattle.scripts.proofs.Cuts.{cutting_all, cutting_bad, cutting_more, cutting_none, cutting_shrinks, reads}
 use Rattle.scripts.proofs.script.Script.read.Goals as goal
 use Rattle.std.proofs.lemmas.Bool.{eqb-false, eqb-true}
