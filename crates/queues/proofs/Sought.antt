@@ -15,7 +15,7 @@ use Rattle.std.proofs.ByRecursion.{has_shuffled, all_shuffled}
 use Rattle.std.proofs.lemmas.List.Sums.{sum_by-cons, get_or-le-sum_by}
 use Rattle.std.proofs.lemmas.Bool.{eq-eqb, ne_eqb, cases_eq, cond-true, cond-false}
 use Rattle.std.specs.List.Sorted.{IsPermutation}
-use Rattle.std.specs.List.{ContainsAt as Has, AllByRecursion as All}
+use Rattle.std.specs.List.{ContainsAt as Has, AllByRecursion}
 
 one_hit : (s : ℕ) (e : Entry) → e.server ≡ s → one s e ≡ 1
 one_hit s e u = cond-true (eqb e.server s) 1 0 (eq-eqb e.server s u)
@@ -66,7 +66,7 @@ sought_shuffled xs ys s d h = elim (known (sought xs s)) [
 ]
 
 -- as many are found as there are
-pub size_sought : (xs : List Entry) → Distinct xs → All Proper xs → size 65 (sought xs) ≡ length xs
+pub size_sought : (xs : List Entry) → Distinct xs → AllByRecursion Proper xs → size 65 (sought xs) ≡ length xs
 size_sought [] d b = size_none 65 (sought []) (λ k. refl)
 size_sought (x ∷ xs) d b =
     let s = x.server in
@@ -77,7 +77,7 @@ size_sought (x ∷ xs) d b =
     omega arith
 
 -- a server without an entry leaves room
-pub room_left : (xs : List Entry) (s : ℕ) → Distinct xs → All Proper xs → 1 ≤ s → s ≤ 64 → sought xs s ≡ None → length xs < 64
+pub room_left : (xs : List Entry) (s : ℕ) → Distinct xs → AllByRecursion Proper xs → 1 ≤ s → s ≤ 64 → sought xs s ≡ None → length xs < 64
 room_left xs s d b lo hi e =
     let none0 : sought xs 0 ≡ None = elim (known (sought xs 0)) [ inl n ↦ n | inr t ↦ let w = sought_within xs b 0 t.0 t.1 in absurd (omega arith) ] in
     let two = size_room 65 (sought xs) s 0 (omega arith) (omega arith) (λ q. omega arith) e none0 in
@@ -100,7 +100,7 @@ module _ (xs ys : List Entry) (x : Entry) (d : Distinct xs) (gone : sought xs x.
     λ k u. sought_shuffled (x ∷ xs) ys k more_distinct h ∙ sought_miss x xs k (λ e. u (sym e)),
   )
 
-  pub put_bounded : Proper x → All Proper xs → All Proper ys
+  pub put_bounded : Proper x → AllByRecursion Proper xs → AllByRecursion Proper ys
   put_bounded b all = all_shuffled Proper (x ∷ xs) ys h (b, all)
 
 -- one less
@@ -111,7 +111,7 @@ module _ (xs ys : List Entry) (x : Entry) (d : Distinct xs) (h : IsPermutation x
   pub take_distinct : Distinct ys
   take_distinct = fewer x ys less_distinct
 
-  pub take_bounded : All Proper xs → Proper x × All Proper ys
+  pub take_bounded : AllByRecursion Proper xs → Proper x × AllByRecursion Proper ys
   take_bounded b = all_shuffled Proper xs (x ∷ ys) h b
 
   pub take_taken : Taken (sought xs) (sought ys) (Some x)
@@ -123,6 +123,6 @@ module _ (xs ys : List Entry) (x : Entry) (d : Distinct xs) (h : IsPermutation x
   pub take_has : Has xs x
   take_has = has_shuffled (x ∷ ys) xs x (IsPermutation-sym xs (x ∷ ys) h) (0, omega arith, λ e. refl)
 
-pub empty_list : (xs : List Entry) → xs ≡ [] → Distinct xs × All Proper xs × Worded (sought xs) 0 × Empty (sought xs)
-empty_list xs e = subst (λ (l : List Entry). Distinct l × All Proper l × Worded (sought l) 0 × Empty (sought l)) (sym e)
+pub empty_list : (xs : List Entry) → xs ≡ [] → Distinct xs × AllByRecursion Proper xs × Worded (sought xs) 0 × Empty (sought xs)
+empty_list xs e = subst (λ (l : List Entry). Distinct l × AllByRecursion Proper l × Worded (sought l) 0 × Empty (sought l)) (sym e)
     ((λ s. omega arith), tt, (λ p. bit_of_zero p), λ k. refl)

@@ -7,7 +7,7 @@ use Rattle.queues.specs.Rows.{Bounded, found}
 use Rattle.queues.specs.declared.entry.Entry.{Entry}
 use Rattle.std.proofs.ByRecursion.{all-has}
 use Rattle.std.proofs.lemmas.Bool.{cases_eq, cond-false, cond-true, eq-eqb, ne_eqb}
-use Rattle.std.specs.List.{ContainsAt as Has, AllByRecursion as All}
+use Rattle.std.specs.List.{ContainsAt as Has, AllByRecursion}
 use Rattle.std.proofs.Common.{inl, inr, sym, ◌∙◌, arith}
 
 -- the server and the instant at place k
@@ -66,5 +66,5 @@ some_has (x ∷ xs) s t e = elim (cases_eq x.server s) [
 ]
 
 -- a list of servers, none past the horizon
-pub sought_within : (xs : List Entry) → All Proper xs → Within (sought xs)
+pub sought_within : (xs : List Entry) → AllByRecursion Proper xs → Within (sought xs)
 sought_within xs b k t e = all-has Proper xs (record { instant = t; server = k }) b (some_has xs k t e)

@@ -14,7 +14,7 @@ use Rattle.queues.specs.declared.entry.Entry.{Entry}
 use Rattle.queues.specs.declared.heap_queue.HeapQueue.{HeapQueue}
 use Rattle.queues.specs.declared.heap_queue.Returned.{Returned}
 use Rattle.queues.specs.declared.row.Row.{Row}
-use Rattle.std.specs.List.{AllByRecursion as All}
+use Rattle.std.specs.List.{AllByRecursion}
 
 -- what a row means
 abbrev pub row_due : Row → Due
@@ -32,7 +32,7 @@ pub record Kept (q : HeapQueue) : Type 0 where
   pub heap : heap.Sound entry_order q.heap
   pub long : servers ≤ room q.heap
   pub apart : Distinct (held q.heap)
-  pub bounded : All Proper (held q.heap)
+  pub bounded : AllByRecursion Proper (held q.heap)
   pub word : Worded (heap_due q) q.held
 
 pub heap_within : (q : HeapQueue) → Kept q → Within (heap_due q)
