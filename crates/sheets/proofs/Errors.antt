@@ -1,5 +1,5 @@
 -- What is printed where a plan or a script was not read.
-use Rattle.std.proofs.Common.{◌≡◌, ℕ, List, IfOk, string_bytes, Result, String, ap, ◌∙◌, inl, inr}
+use Rattle.std.proofs.Common.{ℕ, List, IfOk, string_bytes, Result, String, ap, ◌∙◌, inl, inr}
 use Rattle.limits.specs.declared.fault.ReadError.{ReadError}
 use Rattle.limits.specs.declared.fault.ReadError.TheVariants.{Fault as AtFault, NoMemory}
 use Rattle.plans.specs.Reads as plans
@@ -20,5 +20,5 @@ module _ (plan script : List ℕ) where
 
   pub no_script : (p : Plan) → plans.Reads plan p → (e : ReadError) (r : Result (String Global) AllocError) → scripts.NotRead script e → Told e r → Prints r
   no_script p reads (AtFault f) r n t =
-      IfOk-weaker r _ _ (λ text w. inr (inr (record { read_plan_lem = p; planned = reads; place = f.place; first = n.1; written = w ∙ ap fault_line n.0 }))) t
+      IfOk-weaker r _ _ (λ text w. inr (inr (record { read_plan = p; planned = reads; place = f.place; first = n.1; written = w ∙ ap fault_line n.0 }))) t
   no_script p reads NoMemory r n t = IfOk-from_err r _ t

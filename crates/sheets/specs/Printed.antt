@@ -30,11 +30,11 @@ listed p s = (listing (plans.servers_of p) ++ forecast_lines (plans.servers_of p
 
 -- the bytes are a plan and a script
 pub record Both (plan script text : List ℕ) : Type 0 where
-  pub read_plan_lem : Plan
+  pub read_plan : Plan
   pub read_script : Script
-  pub planned : plans.Reads plan read_plan_lem
+  pub planned : plans.Reads plan read_plan
   pub scripted : scripts.Reads script read_script
-  pub written : text ≡ listed read_plan_lem read_script
+  pub written : text ≡ listed read_plan read_script
 
 -- those of the plan are none
 pub record NoPlan (plan text : List ℕ) : Type 0 where
@@ -44,8 +44,8 @@ pub record NoPlan (plan text : List ℕ) : Type 0 where
 
 -- those of the plan are one, and those of the script are none
 pub record NoScript (plan script text : List ℕ) : Type 0 where
-  pub read_plan_lem : Plan
-  pub planned : plans.Reads plan read_plan_lem
+  pub read_plan : Plan
+  pub planned : plans.Reads plan read_plan
   pub place : ℕ
   pub first : scripts.FirstBad script place
   pub written : text ≡ fault_line (scripts.script_fault_of place)

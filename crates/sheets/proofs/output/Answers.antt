@@ -11,10 +11,10 @@ pub returns-in-Ok-read : goal.returns-in-Ok-read
 returns-in-Ok-read c =
     record {
       answer = IfOk-weaker c.list.result _ _
-          (λ text e. inl (record { read_plan_lem = c.in-Ok.plan; read_script = c.in-Ok-read.script; planned = c.in-Ok.ensures.answer; scripted = c.in-Ok-read.ensures.answer; written = e }))
+          (λ text e. inl (record { read_plan = c.in-Ok.plan; read_script = c.in-Ok-read.script; planned = c.in-Ok.ensures.answer; scripted = c.in-Ok-read.ensures.answer; written = e }))
           c.list.ensures.answer;
     }
 
 pub returns : goal.returns
 returns c =
-    record { answer = no_script c.args.plan.now c.args.script.now c.in-Ok.plan c.in-Ok.ensures.answer c.in-Err-read.e c.error-text_in-Err-read.result c.in-Err-read.ensures.answer c.error-text_in-Err-read.ensures.answer }
+    record { answer = no_script c.args.plan.now c.args.script.now c.in-Ok.plan c.in-Ok.ensures.answer c.in-Err-read.e c.error_text-in-Err-read.result c.in-Err-read.ensures.answer c.error_text-in-Err-read.ensures.answer }
