@@ -30,7 +30,7 @@ use Rattle.slots.specs.declared.sets.Advanced.{Advanced as ManyTicks}
 use Rattle.std.proofs.lemmas.Bool.{leb-false, not_from_false}
 
 -- the trace was played on a new board, which then is m
-abbrev Ran : Meaning → Trace → Model → Type 0
+abbrev pub Ran : Meaning → Trace → Model → Type 0
 Ran rule nothing m = m ≡ fresh
 Ran rule (said p c a) m = (n : Model) × Ran rule p n × (a ≡ answer_of rule n c) × (m ≡ after_call rule n c)
 
@@ -130,7 +130,7 @@ began rule q (said p c a) m b l =
     b
 
 -- the law of a trace that was played
-kept : (rule : Meaning) → WithinShare rule → (all : Trace) (m : Model) → Ran rule all m → Kept rule all
+pub kept : (rule : Meaning) → WithinShare rule → (all : Trace) (m : Model) → Ran rule all m → Kept rule all
 kept rule law all m h = record {
   law = share_of rule law (spelt all) m (spelt_leads rule law all m h);
   answers_by_checks = λ q c a b.

@@ -12,8 +12,8 @@ use Rattle.release.specs.Rules.{WithinShare}
 use Rattle.scripts.specs.declared.line.Command.{Command}
 use Rattle.scripts.specs.declared.line.Command.TheVariants.{Admit, Leave, Start, Wait}
 use Rattle.scripts.specs.declared.line.Line.{Line}
-use Rattle.share.proofs.Keeping.{kept, ran_sound}
-use Rattle.share.specs.Plays.{Ran, after_call, answer_of, spoken}
+use Rattle.share.proofs.Keeping.{Ran, kept, ran_sound}
+use Rattle.share.specs.Plays.{after_call, answer_of, spoken}
 use Rattle.share.specs.Share.{Kept}
 use Rattle.share.specs.Traces.{Trace, nothing, said}
 use Rattle.share.specs.declared.calls.Answer.{Answer}

@@ -1,5 +1,5 @@
 -- What a run still has to show.
-use Rattle.std.specs.Prelude.{◌≡◌, ℕ, ◌≤◌, List, [], ◌∷◌, ◌++◌, IfSome, Some, None, Option}
+use Rattle.std.specs.Prelude.{◌≡◌, ℕ, ◌≤◌, List, [], ◌∷◌, ◌++◌, Some, None, Option}
 use Rattle.board.specs.Boards.{Agrees, model}
 use Rattle.limits.specs.Ranges.{horizon}
 use Rattle.queues.specs.declared.queue.Queue.{Ghosts}
@@ -9,6 +9,7 @@ use Rattle.scripts.specs.declared.line.Line.{Line}
 use Rattle.timer_sheets.specs.Sheets.{sheet_from}
 use Rattle.timer_sheets.specs.declared.line.SheetLine.{SheetLine}
 use Rattle.timer_sheets.specs.declared.run.Run.{Run}
+use Rattle.std.specs.List.{AllByRecursion}
 use Rattle.std.specs.Option.{option_to_list}
 
 -- the lines still to come
@@ -20,8 +21,8 @@ abbrev pub Given : Option SheetLine → List SheetLine → List SheetLine → Ty
 Given None old new = (old ≡ []) × (new ≡ [])
 Given (Some l) old new = old ≡ l ∷ new
 
--- the board's queues agree with its slots, the line awaited lies by the horizon, and where none is awaited none is left
+-- the board's queues agree with its slots, no line lies past the horizon, and where none is awaited none is left
 pub record Live {R X Y : Type 0} (q : Ghosts X) (c : Ghosts Y) (r : Run R X Y) : Type 0 where
   pub agrees : Agrees q c r.board
-  pub early : IfSome r.awaited (λ line. line.instant ≤ horizon)
+  pub early : AllByRecursion (λ line. line.instant ≤ horizon) (option_to_list r.awaited ++ coming r.agenda.now)
   pub over : r.awaited ≡ None → coming r.agenda.now ≡ []

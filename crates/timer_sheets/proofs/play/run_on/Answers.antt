@@ -19,7 +19,7 @@ unreachable-requires g c =
     let n = c.args.instant - c.clock-before.result in
     let count : n ≡ c.args.instant - m.clock = ap (λ (k : ℕ). c.args.instant - k) c.clock-before.ensures.answer in
     let ok = towards m n c.args.instant count c.requires.ahead c.requires.early in
-    let told : Err c.in-Err.-why ≡ Ok (advanced m n) = c.in-Err.ensures.answer ∙ ap (λ (w : Option Refusal). judged w (advanced m n)) ok in
+    let told : Err c.in-Err._why ≡ Ok (advanced m n) = c.in-Err.ensures.answer ∙ ap (λ (w : Option Refusal). judged w (advanced m n)) ok in
     let z : ◌≡◌ {A = ℕ} 0 1 = cc in
     omega arith
 

@@ -1,5 +1,4 @@
 use Rattle.release.specs.Actions.{Meaning}
-use Rattle.scripts.proofs.Coming.{lines-early}
 use Rattle.scripts.specs.Agendas.{coming}
 use Rattle.share.specs.Share.{Kept}
 use Rattle.share.specs.Traces.{nothing}
@@ -20,9 +19,8 @@ returns g c =
     let plan = c.args.plan.now in
     let rule : Meaning = g.R.ReleaseRule.amount c.args.rule in
     let come : sheet_from (g.R.ReleaseRule.amount c.new.result.rule) plan (model c.new.result) (option_to_list c.next-awaited.result ++ coming c.next-awaited.new.self) ≡ sheet_from rule plan fresh (coming agenda) = search rules in
-    let early = lines-early agenda.lines.now agenda.valid _ in
     record {
       answer = come;
-      law = subst (λ (ls : List SheetLine). Kept rule (shown_after plan nothing ls)) (sym come) (sheet_kept rule (g.met.R.ReleaseRule.share c.args.rule) plan (coming agenda) early);
+      law = subst (λ (ls : List SheetLine). Kept rule (shown_after plan nothing ls)) (sym come) (sheet_kept rule (g.met.R.ReleaseRule.share c.args.rule) plan (coming agenda) c.requires.early);
       keeps = search rules;
     }

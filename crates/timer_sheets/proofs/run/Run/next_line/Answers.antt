@@ -1,4 +1,5 @@
-use Rattle.std.proofs.Common.{◌≡◌, ◌≤◌, List, [], ◌∷◌, ◌++◌, IfSome, Some, Option, sym, ap, ◌∙◌, subst, arith}
+use Rattle.std.specs.List.{AllByRecursion}
+use Rattle.std.proofs.Common.{◌≡◌, ◌≤◌, List, [], ◌∷◌, ◌++◌, Some, Option, sym, ap, ◌∙◌, subst, arith}
 use Rattle.board.specs.Boards.{model}
 use Rattle.limits.specs.Ranges.{horizon}
 use Rattle.release.specs.Actions.{Meaning}
@@ -23,7 +24,7 @@ returns-then-clock-line g c =
     let plan = r.plan.now in
     let ran = c.run_on.ensures in
     let clock = c.clock.ensures.answer in
-    let early : line.instant ≤ horizon = subst (λ (o : Option Line). IfSome o (λ l. l.instant ≤ horizon)) c.in-Some.is live.early in
+    let early : line.instant ≤ horizon = (subst (λ (o : Option Line). AllByRecursion (λ l. l.instant ≤ horizon) (option_to_list o ++ rest)) c.in-Some.is live.early).0 in
     let front : (o : Option Line) → o ≡ Some line → option_to_list o ++ rest ≡ line ∷ rest = λ o e. ap (λ (x : Option Line). option_to_list x ++ rest) e in
     let next = run_first rule plan m line rest live.agrees.whole.sound (omega (arith, c.if-clock-line.true)) early in
     record {
