@@ -1,5 +1,5 @@
 -- The calls that a sheet shows were played on a board.
-use Rattle.std.proofs.Common.{◌≡◌, ℕ, zero, suc, ◌+◌, ◌-◌, ◌<◌, ◌≤◌, Bool, true, false, cond, ltb, ◌⊎◌, List, [], ◌∷◌, ◌++◌, Some, None, Option, sym, refl, ap, ◌∙◌, subst, inl, inr, ⊎_elim, arith}
+use Rattle.std.proofs.Common.{◌≡◌, ℕ, zero, suc, ◌+◌, ◌-◌, ◌<◌, ◌≤◌, true, false, ltb, List, [], ◌∷◌, ◌++◌, Some, None, Option, sym, refl, ap, ◌∙◌, subst, ⊎_elim, arith}
 use Rattle.board.proofs.Judged.{advance_accepted}
 use Rattle.limits.specs.Ranges.{horizon}
 use Rattle.limits.specs.declared.refusal.Refusal.{Refusal}
@@ -15,8 +15,7 @@ use Rattle.scripts.specs.declared.line.Line.{Line}
 use Rattle.share.proofs.Keeping.{Ran, kept, ran_sound}
 use Rattle.share.specs.Plays.{after_call, answer_of, spoken}
 use Rattle.share.specs.Share.{Kept}
-use Rattle.share.specs.Traces.{Trace, nothing, said}
-use Rattle.share.specs.declared.calls.Answer.{Answer}
+use Rattle.share.specs.Traces.{Trace, nothing}
 use Rattle.share.specs.declared.calls.Answer.TheVariants.{Done, Started, Advanced}
 use Rattle.share.specs.declared.calls.Call.TheVariants.{Admit as CallAdmit, Start as CallStart, Advance}
 use Rattle.timer_sheets.proofs.Lines.{Well, strides, turns_add}
@@ -24,9 +23,8 @@ use Rattle.timer_sheets.specs.Calls.{call_shown, said_too, shown_after}
 use Rattle.timer_sheets.specs.Sheets.{from_plan, in_plan, left_by, next_run, runs, sheet_from, shown, stride}
 use Rattle.timer_sheets.specs.declared.line.SheetLine.{SheetLine}
 use Rattle.slots.proofs.Spans.{largest, turns_clock}
-use Rattle.slots.specs.Advances.{Allowed, Largest, advance_refusal, advanced, leapt, span, turns}
+use Rattle.slots.specs.Advances.{Allowed, advanced, leapt, span, turns}
 use Rattle.slots.specs.Steps.{Model, admit_after, admit_refusal, arriving, changed, fresh, judged, start_after, start_answer}
-use Rattle.slots.specs.declared.sets.Advanced.{Advanced as ManyTicks}
 use Rattle.std.proofs.lemmas.Bool.{cases_Bool, cond-false, cond-true, ltb-false, ltb-true}
 use Rattle.std.specs.Option.{option_map, option_to_list}
 use Rattle.std.specs.List.{AllByRecursion}

@@ -1,11 +1,10 @@
 -- What a run still has to show.
-use Rattle.std.specs.Prelude.{◌≡◌, ℕ, ◌≤◌, List, [], ◌∷◌, ◌++◌, Some, None, Option}
+use Rattle.std.specs.Prelude.{◌≡◌, ◌≤◌, List, [], ◌∷◌, ◌++◌, Some, None, Option}
 use Rattle.board.specs.Boards.{Agrees, model}
 use Rattle.limits.specs.Ranges.{horizon}
 use Rattle.queues.specs.declared.queue.Queue.{Ghosts}
 use Rattle.release.specs.declared.rule.ReleaseRule as rules
 use Rattle.scripts.specs.Agendas.{coming}
-use Rattle.scripts.specs.declared.line.Line.{Line}
 use Rattle.timer_sheets.specs.Sheets.{sheet_from}
 use Rattle.timer_sheets.specs.declared.line.SheetLine.{SheetLine}
 use Rattle.timer_sheets.specs.declared.run.Run.{Run}

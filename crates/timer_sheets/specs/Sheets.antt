@@ -1,10 +1,10 @@
 -- The sheet of a plan and a script: each call with its answer, and the runs of ticks between them.
-use Rattle.std.specs.Prelude.{ℕ, zero, suc, ◌-◌, cond, List, [], ◌∷◌, ◌++◌, Some, None, Ok, Err, Option, Result, nat_lt}
+use Rattle.std.specs.Prelude.{ℕ, zero, suc, ◌-◌, cond, List, [], ◌∷◌, ◌++◌, Some, None, Err, Option, Result, nat_lt}
 use Rattle.limits.specs.declared.refusal.Refusal.{Refusal}
 use Rattle.limits.specs.declared.refusal.Refusal.TheVariants.{NotInPlan}
 use Rattle.plans.specs.Reads.{action_of, server_of}
 use Rattle.plans.specs.declared.plan.Plan.{Plan}
-use Rattle.release.specs.Actions.{Action, Meaning}
+use Rattle.release.specs.Actions.{Meaning}
 use Rattle.scripts.specs.Dues.{time_order}
 use Rattle.scripts.specs.declared.line.Command.{Command}
 use Rattle.scripts.specs.declared.line.Command.TheVariants.{Admit, Leave, Start, Wait}

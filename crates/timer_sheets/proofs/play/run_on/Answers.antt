@@ -1,11 +1,11 @@
-use Rattle.std.proofs.Common.{◌≡◌, ℕ, ◌-◌, ◌<◌, ◌≤◌, None, Ok, Err, Option, ap, ◌∙◌, subst, arith}
+use Rattle.std.proofs.Common.{◌≡◌, ℕ, ◌-◌, ◌<◌, ◌≤◌, None, Ok, Err, Option, ap, ◌∙◌, arith}
 use Rattle.board.proofs.Judged.{advance_accepted}
 use Rattle.board.specs.Boards.{model}
 use Rattle.limits.specs.Ranges.{horizon}
 use Rattle.limits.specs.declared.refusal.Refusal.{Refusal}
 use Rattle.timer_sheets.proofs.play.run_on.Goals as goal
 use Rattle.timer_sheets.specs.declared.line.SheetLine.TheVariants.{Run as Runs}
-use Rattle.slots.specs.Advances.{advance_after, advance_refusal, advanced, span, turns}
+use Rattle.slots.specs.Advances.{advance_refusal, advanced, span, turns}
 use Rattle.slots.specs.Steps.{Model, changed, judged}
 use Rattle.slots.specs.declared.sets.Advanced.{Advanced}
 

@@ -7,9 +7,8 @@ use Rattle.timer_sheets.proofs.run.Run.new.Goals as goal
 use Rattle.timer_sheets.specs.Calls.{shown_after}
 use Rattle.timer_sheets.specs.Sheets.{sheet_from}
 use Rattle.timer_sheets.specs.declared.line.SheetLine.{SheetLine}
-use Rattle.slots.specs.Steps.{Model, fresh}
+use Rattle.slots.specs.Steps.{fresh}
 use Rattle.board.specs.Boards.{model}
-use Rattle.scripts.specs.declared.line.Line.{Line}
 use Rattle.std.specs.Option.{option_to_list}
 use Rattle.std.proofs.Common.{◌≡◌, List, ◌++◌, sym, subst, rules}
 
