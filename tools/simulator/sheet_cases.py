@@ -25,8 +25,8 @@ class SheetCase:
 
 
 def sheet_cases(rng: Random, count: int) -> list[tuple[bytes, bytes]]:
-    """The planted cases, then random ones up to the count."""
-    cases = [(case.plan, case.script) for case in planted_sheets()]
+    """The planted cases, the long ones, then random ones up to the count."""
+    cases = [(case.plan, case.script) for case in planted_sheets() + long_sheets()]
     while len(cases) < count:
         cases.append(random_sheet(rng))
     return cases[:count]
@@ -50,7 +50,6 @@ def planted_sheets() -> list[SheetCase]:
     cases += refusals()
     cases += schedules()
     cases += near_the_horizon()
-    cases += long_sheets()
     return cases
 
 
