@@ -1,9 +1,9 @@
--- No line of a valid script lies past the horizon, nor does one that an agenda gives.
-use Rattle.std.proofs.Common.{◌≡◌, ℕ, zero, suc, ◌≤◌, true, List, [], ◌∷◌, ◌++◌, map, nat_le, slice_index_or, length, Some, None, Ok, Err, Option, Result, refl, sym, ◌∙◌, subst, arith}
+-- No line of a valid script lies past the horizon, so none does that an agenda has of it.
+use Rattle.std.proofs.Common.{◌≡◌, ℕ, zero, suc, ◌≤◌, true, List, [], ◌∷◌, map, nat_le, slice_index_or, length, None, Ok, Err, Result, refl, sym, subst, arith}
 use Rattle.limits.specs.Ranges.{horizon}
 use Rattle.limits.proofs.Passed.{refuse_none}
 use Rattle.limits.specs.declared.fault.Fault.{Fault}
-use Rattle.scripts.specs.Agendas.{Given, Loaded, coming, places}
+use Rattle.scripts.specs.Agendas.{Loaded, coming, places}
 use Rattle.scripts.specs.Dues.{line_at, time_order}
 use Rattle.scripts.specs.Lines.{valid_line, valid_lines}
 use Rattle.scripts.specs.declared.agenda.Agenda.{Agenda}
@@ -11,7 +11,6 @@ use Rattle.scripts.specs.declared.due.Due.{Due}
 use Rattle.scripts.specs.declared.line.Command.TheVariants.{Wait}
 use Rattle.scripts.specs.declared.line.Line.{Line}
 use Rattle.std.specs.List.{AllByRecursion}
-use Rattle.std.specs.Option.{option_to_list}
 use Rattle.std.proofs.lemmas.Bool.{and_parts, leb-true, ltb-false}
 use Rattle.timer_sheets.specs.Lent.{lent_check}
 
@@ -24,22 +23,18 @@ lines_early : (ls : List Line) → valid_lines ls ≡ true → (ds : List Due) �
 lines_early ls v [] = tt
 lines_early ls v (d ∷ ds) = (valid_early ls d.place v, lines_early ls v ds)
 
-pub order_early : (ls : List Line) → valid_lines ls ≡ true → AllByRecursion (λ l. l.instant ≤ horizon) (time_order ls)
+order_early : (ls : List Line) → valid_lines ls ≡ true → AllByRecursion (λ l. l.instant ≤ horizon) (time_order ls)
 order_early ls v = lines_early ls v _
-
--- what holds of each line still to come holds of the next and of those after it
-pub given_all : (P : Line → Type 0) (o : Option Line) (old new : List Line) → Given o old new → AllByRecursion P old → AllByRecursion P (option_to_list o ++ new)
-given_all P None old new g a = subst (AllByRecursion P) (g.0 ∙ sym g.1) a
-given_all P (Some l) old new g a = subst (AllByRecursion P) g a
 
 -- a valid script's lines, loaded
 pub loaded_early : (ls : List Line) (old new : Agenda) (r : Result (Unit {0}) Fault) → valid_lines ls ≡ true → ((f : Fault) → r ≡ Err f → ⊥) → Loaded ls old new r → AllByRecursion (λ l. l.instant ≤ horizon) (coming new)
 loaded_early ls old new (Ok _) v n l = subst (AllByRecursion (λ l. l.instant ≤ horizon)) (sym l.1) (order_early ls v)
 loaded_early ls old new (Err f) v n l = absurd (n f refl)
 
-pub fitting_early : (ls : List Line) (old new : Agenda) (r : Result (Unit {0}) Fault) → valid_lines ls ≡ true → length ls ≤ places old → Loaded ls old new r → AllByRecursion (λ l. l.instant ≤ horizon) (coming new)
-fitting_early ls old new (Ok _) v n l = subst (AllByRecursion (λ l. l.instant ≤ horizon)) (sym l.1) (order_early ls v)
-fitting_early ls old new (Err f) v n l = let over = l.0 in absurd (omega arith)
+-- lines for which there are places are not refused
+pub not_refused : (ls : List Line) (old new : Agenda) (r : Result (Unit {0}) Fault) → length ls ≤ places old → Loaded ls old new r → (f : Fault) → r ≡ Err f → ⊥
+not_refused ls old new (Ok _) h l f e = cc
+not_refused ls old new (Err g) h l f e = let over = l.0 in omega arith
 
 -- what the check of lent memory tells of the places for lines
 pub lent_fits : (lines places ready calendar : ℕ) → lent_check lines places ready calendar ≡ None → lines ≤ places
