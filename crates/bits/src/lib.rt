@@ -1,8 +1,12 @@
-// Single bits of a word, and the lowest set one. Bits are numbered from 0; a word has 64.
+// Single bits of a word, the lowest set one, and sets of servers as words. Bits are numbered from 0; a word has 64.
 #![tactic(auto)]
 
 ghost use Rattle.bits.specs.Words.{Cleared, LowestOf, Set, bit};
-ghost use Rattle.std.specs.Prelude.{◌≡◌, ◌==◌};
+ghost use Rattle.std.specs.Prelude.{◌≡◌, ◌≤◌, ◌==◌};
+
+mod server_set;
+
+pub use server_set::ServerSet;
 
 // The word with bit i set; as it is where it has no bit i.
 pub fn with_bit(x: u64, i: u32) -> u64
@@ -11,9 +15,10 @@ pub fn with_bit(x: u64, i: u32) -> u64
     if i < 64 { x | 1 << i } else { x }
 }
 
-// The word with bit i cleared.
+// The word with bit i cleared; as it is where it has no bit i.
 pub fn without_bit(x: u64, i: u32) -> u64
     ensures answer { Cleared x i result }
+    ensures stays { 64 ≤ i → result ≡ x }
 {
     if i < 64 { x & !(1 << i) } else { x }
 }

@@ -1,17 +1,19 @@
 -- Which check a call fails, and when none.
-use Rattle.std.proofs.Common.{◌≡◌, ℕ, ◌+◌, ◌*◌, ◌<◌, ◌≤◌, Some, None}
+use Rattle.std.proofs.Common.{◌≡◌, ℕ, ◌<◌, ◌≤◌, Some, None, Err, Result, sym, refl, ap}
 use Rattle.limits.proofs.Passed.{refuse_none}
 use Rattle.limits.specs.Checks.{cap_check, server_check}
 use Rattle.limits.specs.Ranges.{horizon, outside, servers, unit}
-use Rattle.limits.specs.declared.refusal.Refusal.TheVariants.{ServerNumber, Cap, ForecastPastHorizon}
+use Rattle.limits.specs.declared.refusal.Refusal.{Refusal}
+use Rattle.limits.specs.declared.refusal.Refusal.TheVariants.{ActionAtWork, Cap, NotAdmitted, ServerNumber}
 use Rattle.release.proofs.Values.{inside}
-use Rattle.release.specs.Actions.{Action, Meaning, forecast}
+use Rattle.release.specs.Actions.{Action, Meaning}
 use Rattle.release.specs.Forecasts.{values_check}
 use Rattle.slots.specs.Advances.{advance_refusal}
-use Rattle.slots.specs.Slots.{cap_of, total}
-use Rattle.slots.specs.Steps.{Model, admit_refusal, leave_refusal, slot_of, start_refusal, tick_refusal}
-use Rattle.slots.specs.declared.slot.Slot.TheVariants.{Absent, Resting}
-use Rattle.std.proofs.lemmas.Bool.{le-ltb, lt-leb, lt-ltb}
+use Rattle.slots.specs.Steps.{Model, slot_of, start_refusal, tick_refusal}
+use Rattle.slots.specs.declared.slot.Slot.{Slot}
+use Rattle.slots.specs.declared.slot.Slot.TheVariants.{Absent, Resting, Working}
+use Rattle.board.specs.Fits.{resting_cap_of}
+use Rattle.std.proofs.lemmas.Bool.{le-ltb, lt-leb}
 
 pub server_none : (s : ℕ) → server_check s ≡ None → (1 ≤ s) × (s ≤ servers)
 server_none s h = inside s servers (refuse_none (outside s servers) ServerNumber None h).0
@@ -19,20 +21,14 @@ server_none s h = inside s servers (refuse_none (outside s servers) ServerNumber
 pub cap_none : (c : ℕ) → cap_check c ≡ None → (1 ≤ c) × (c ≤ unit)
 cap_none c h = inside c unit (refuse_none (outside c unit) Cap None h).0
 
-pub admit_accepted : (m : Model) (s c : ℕ) → server_check s ≡ None → cap_check c ≡ None → slot_of m.slots s ≡ Absent → total cap_of m.slots + c ≤ unit → admit_refusal m s c ≡ None
-admit_accepted m s c a b is room = simp (a, b, is, le-ltb unit (total cap_of m.slots + c) room)
-
-pub leave_accepted : (m : Model) (s c : ℕ) → server_check s ≡ None → slot_of m.slots s ≡ Resting c → leave_refusal m s ≡ None
-leave_accepted m s c a is = simp (a, is)
-
--- a start, with its server and its values in range
-module _ (rule : Meaning) (m : Model) (s : ℕ) (k : Action) (a : server_check s ≡ None) (v : values_check k ≡ None) (c : ℕ) (is : slot_of m.slots s ≡ Resting c) where
-  module _ (rate : k.limit * unit ≤ c * k.period) where
-    pub start_past : horizon < forecast rule k → start_refusal rule m s k ≡ Some ForecastPastHorizon
-    start_past h = simp (a, v, is, le-ltb (c * k.period) (k.limit * unit) rate, lt-ltb horizon (forecast rule k) h)
-
-    pub start_accepted : forecast rule k ≤ horizon → start_refusal rule m s k ≡ None
-    start_accepted h = simp (a, v, is, le-ltb (c * k.period) (k.limit * unit) rate, le-ltb horizon (forecast rule k) h)
+-- a start of a server that does not rest
+pub start_idle : (rule : Meaning) (m : Model) (s : ℕ) (k : Action) → server_check s ≡ None → values_check k ≡ None → (why : Refusal) → ◌≡◌ {A = Result ℕ Refusal} (Err why) (resting_cap_of (slot_of m.slots s)) → start_refusal rule m s k ≡ Some why
+start_idle rule m s k a v why h = go (slot_of m.slots s) refl h
+  where
+    go : (x : Slot) → slot_of m.slots s ≡ x → ◌≡◌ {A = Result ℕ Refusal} (Err why) (resting_cap_of x) → start_refusal rule m s k ≡ Some why
+    go Absent is e = simp (a, v, is) (let w : why ≡ NotAdmitted = cc in ap Some (sym w))
+    go (Resting c) is e = cc
+    go (Working w) is e = simp (a, v, is) (let z : why ≡ ActionAtWork = cc in ap Some (sym z))
 
 pub tick_accepted : (m : Model) → m.clock < horizon → tick_refusal m ≡ None
 tick_accepted m l = simp (lt-leb horizon m.clock l)

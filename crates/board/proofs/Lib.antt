@@ -1,13 +1,13 @@
-pub mod Flags
 pub mod Ties
 pub mod Picks
 pub mod Slotwise
+pub mod Reaches
 pub mod Closes
+pub mod Flags
 pub mod Loops
 pub mod Turns
+pub mod Passes
 pub mod Judged
 pub mod Openings
 pub mod Begins
-pub mod Reaches
-pub mod Leaps
 pub mod Advancing

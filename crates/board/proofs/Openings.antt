@@ -1,8 +1,7 @@
 -- What the opening of an action says, once its values are in range.
-use Rattle.std.proofs.Common.{◌≡◌, ◌<◌, ◌≤◌, Some, None, Ok, Err, Option, ap, ◌∙◌, inl, inr, arith}
+use Rattle.std.proofs.Common.{◌≡◌, ◌≤◌, Some, None, Ok, Err, Option, ap, ◌∙◌, inl, inr, arith}
 use Rattle.limits.specs.Ranges.{horizon}
 use Rattle.limits.specs.declared.refusal.Refusal.{Refusal}
-use Rattle.limits.specs.declared.refusal.Refusal.TheVariants.{ForecastPastHorizon}
 use Rattle.release.proofs.Opens.{check_none, check_past}
 use Rattle.release.specs.Actions.{Action, Meaning, forecast}
 use Rattle.release.specs.Forecasts.{values_check}
@@ -13,24 +12,11 @@ use Rattle.std.proofs.lemmas.Bool.{cases_lt}
 ok_some : (x : Opening) {o : Opening} {check : Option Refusal} {why : Refusal} → check ≡ Some why → Ok o ≡ answered check x → ⊥
 ok_some x {o} {check} {why} c h = let z : Ok o ≡ Err why = h ∙ ap (λ (w : Option Refusal). answered w x) c in grind arith
 
-err_none : (x : Opening) {check : Option Refusal} {why : Refusal} → check ≡ None → Err why ≡ answered check x → ⊥
-err_none x {check} {why} c h = let z : Err why ≡ Ok x = h ∙ ap (λ (w : Option Refusal). answered w x) c in grind arith
-
 ok_is : (x : Opening) {o : Opening} {check : Option Refusal} → check ≡ None → Ok o ≡ answered check x → o ≡ x
 ok_is x {o} {check} c h = let z : Ok o ≡ Ok x = h ∙ ap (λ (w : Option Refusal). answered w x) c in cc
 
-err_is : (x : Opening) {check : Option Refusal} {why r : Refusal} → check ≡ Some r → Err why ≡ answered check x → why ≡ r
-err_is x {check} {why} {r} c h = let z : Err why ≡ Err r = h ∙ ap (λ (w : Option Refusal). answered w x) c in cc
-
-module _ (rule : Meaning) (k : Action) (v : values_check k ≡ None) where
-  pub opening_made : (o : Opening) → Ok o ≡ opening_answer rule k → (o ≡ opening_of rule k) × (forecast rule k ≤ horizon)
-  opening_made o h = elim (cases_lt horizon (forecast rule k)) [
-    | inl l ↦ absurd (ok_some (opening_of rule k) (check_past rule k v l) h)
-    | inr l ↦ (ok_is (opening_of rule k) (check_none rule k v l) h, l)
-  ]
-
-  pub opening_past : (why : Refusal) → Err why ≡ opening_answer rule k → (why ≡ ForecastPastHorizon) × (horizon < forecast rule k)
-  opening_past why h = elim (cases_lt horizon (forecast rule k)) [
-    | inl l ↦ (err_is (opening_of rule k) (check_past rule k v l) h, l)
-    | inr l ↦ absurd (err_none (opening_of rule k) (check_none rule k v l) h)
-  ]
+pub opening_made : (rule : Meaning) (k : Action) → values_check k ≡ None → (o : Opening) → Ok o ≡ opening_answer rule k → (o ≡ opening_of rule k) × (forecast rule k ≤ horizon)
+opening_made rule k v o h = elim (cases_lt horizon (forecast rule k)) [
+  | inl l ↦ absurd (ok_some (opening_of rule k) (check_past rule k v l) h)
+  | inr l ↦ (ok_is (opening_of rule k) (check_none rule k v l) h, l)
+]

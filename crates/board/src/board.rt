@@ -1,55 +1,44 @@
 // The board and its making.
-ghost use Rattle.board.specs.Boards.{Agrees, model};
+ghost use Rattle.board.specs.Fits.{AllLast, Sound-prop};
+ghost use Rattle.limits.specs.Ranges.{horizon};
+ghost use Rattle.slots.specs.Slots.{Sound, cap_of, total};
 ghost use Rattle.slots.specs.Steps.{fresh};
-ghost use Rattle.std.specs.Prelude.{◌≡◌};
+ghost use Rattle.std.specs.Prelude.{◌≡◌, ◌≤◌};
 
-use crate::entries::clear;
+use crate::table::Table;
 use queues::Queue;
 use release::ReleaseRule;
-use slots::Slot;
 
 mod advances;
 mod calls;
-mod ticks;
 
-// One slot a server, the first for server 1.
-#[derive(Drop)]
-pub struct Table {
-    slots: [Slot; 64],
-}
-
-// The ready queue holds the servers whose present stretch has amount unserved, the calendar those at work, each at the
-// end of that stretch; `held` is the sum of the caps. What ties the queues to the slots cannot be in the type of a
-// generic struct today, so each call asks for it (`Agrees`) and keeps it, and the making gives it.
+// `held` is the sum of the caps. The demand of the slots keeps to their caps, and every action ends by the horizon.
+// That a call leaves the rule as it was stands in the contract of each: a type tells nothing of before and after.
 #[derive(Drop)]
 pub struct Board<R: ReleaseRule, Q: Queue, C: Queue> {
     rule: R,
-    table: Table,
     clock: u64,
     held: u64,
-    ready: Q,
-    calendar: C,
+    table: Table<Q, C>,
+    ghost early: { clock ≤ horizon },
+    ghost caps: { held ≡ total cap_of table.slots },
+    ghost sound: { Sound clock table.slots } by { Sound-prop clock table.slots },
+    ghost lasting: { AllLast table.slots },
 }
 
 impl<R: ReleaseRule, Q: Queue, C: Queue> Board<R, Q, C> {
+    ghost use Rattle.board.specs.Boards.{model};
+
     // A board at instant 0 without servers. Every entry is first taken out of both queues.
-    pub fn new(rule: R, mut ready: Q, mut calendar: C) -> Board<R, Q, C>
-        requires { (Q.Queue.sound ready) × (C.Queue.sound calendar) }
+    pub fn new(rule: R, ready: Q, calendar: C) -> Board<R, Q, C>
         ensures answer { model result ≡ fresh }
         ensures rule { result.rule ≡ rule }
-        ensures keeps { Agrees Q.Queue C.Queue result }
     {
-        clear(&mut ready);
-        clear(&mut calendar);
         Board {
             rule,
-            table: Table {
-                slots: [Slot::Absent; 64],
-            },
             clock: 0,
             held: 0,
-            ready,
-            calendar,
+            table: Table::new(ready, calendar),
         }
     }
 

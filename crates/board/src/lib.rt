@@ -4,5 +4,6 @@
 
 mod board;
 mod entries;
+mod table;
 
 pub use board::Board;

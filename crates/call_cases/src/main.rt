@@ -1,135 +1,121 @@
 // Plays stored lists of board calls under each release rule and on four makes of board, and prints every answer.
 #![tactic(auto)]
 
-ghost use Rattle.std.specs.Prelude.{◌≡◌, ◌+◌, ◌≤◌, length, IfSome, IfOk};
-ghost use Rattle.board.specs.Boards.{Agrees};
-ghost use Rattle.queues.specs.Makes.{Kept};
-
 use anyhow::anyhow;
+use bits::ServerSet;
 use board::Board;
-use limits::Refusal;
-use packs::split_item;
+use limits::{Task, refusal_number};
+use packs::Items;
 use queues::{Entry, HeapQueue, Queue, Row};
 use release::{Early, Late, ReleaseRule};
-use slots::{Advanced, Ticked};
-use std::fs;
+use share::Call;
+use slots::{Advanced, Sets, Ticked};
+use std::{fmt, fs};
 use windows::Window;
 
-// A call of a board.
-#[derive(Clone, Copy)]
-enum Call {
-    Admit(u8, u32),
-    Leave(u8),
-    Start(u8, u32, u32, u32),
-    Tick,
-    Advance(u64),
-}
-
-// The call at the front of the list, which has fourteen bytes, and the list after it.
-fn split_call(list: &[u8]) -> Option<(Call, &[u8])>
-    ensures shorter { IfSome result (λ x. length x.1.now + 14 ≡ length list.now) }
-{
-    if list.len() < 14 {
-        return None;
-    }
-    let (bytes, rest) = list.split_at(14);
+// A call has fourteen bytes: its kind, a server, and three numbers of four bytes, the low byte first.
+fn call_of(bytes: [u8; 14]) -> Call {
+    let number = |at: usize| u32::from_le_bytes(bytes[at..at + 4].try_into().unwrap());
     let server = bytes[1];
-    let first = field(bytes, 2);
-    let call = match bytes[0] {
-        0 => Call::Admit(server, first),
-        1 => Call::Leave(server),
-        2 => Call::Start(server, first, field(bytes, 6), field(bytes, 10)),
+    match bytes[0] {
+        0 => Call::Admit {
+            server,
+            cap: number(2),
+        },
+        1 => Call::Leave { server },
+        2 => Call::Start {
+            server,
+            task: Task {
+                load: number(2),
+                limit: number(6),
+                period: number(10),
+            },
+        },
         3 => Call::Tick,
-        _ => Call::Advance(u64::from(field(bytes, 6)) << 32 | u64::from(first)),
-    };
-    Some((call, rest))
-}
-
-// The four bytes from a place on as a number, the low byte first.
-fn field(bytes: &[u8], place: usize) -> u32
-    requires { place + 4 ≤ length bytes.now }
-{
-    u32::from_le_bytes([
-        bytes[place],
-        bytes[place + 1],
-        bytes[place + 2],
-        bytes[place + 3],
-    ])
-}
-
-// The number of the refusal, 0 if there is none.
-fn refusal_number(answer: Result<(), Refusal>) -> u8 {
-    match answer {
-        Ok(()) => 0,
-        Err(refusal) => refusal.number(),
+        _ => Call::Advance {
+            count: u64::from_le_bytes(bytes[2..10].try_into().unwrap()),
+        },
     }
 }
 
-// The number of the refusal and the forecast end, 0 for the one that is not answered.
-fn start_numbers(answer: Result<u64, Refusal>) -> (u8, u64) {
-    match answer {
-        Ok(end) => (0, end),
-        Err(refusal) => (refusal.number(), 0),
+// Sets as numbers: the sums of 2^(s - 1) over their servers s.
+#[derive(Drop)]
+struct Words(Sets);
+
+impl fmt::Display for Words {
+    fn fmt<W: fmt::Write>(&self, f: &mut fmt::Formatter<W>) -> fmt::Result {
+        let Sets {
+            released,
+            ended,
+            late,
+        } = self.0;
+        write!(f, "{} {} {}", released.word, ended.word, late.word)
     }
 }
 
-fn print_tick(rt: &HostRuntime, answer: Result<Ticked, Refusal>) -> anyhow::Result<()> {
-    match answer {
-        Ok(ticked) => {
-            let served = ticked.served.unwrap_or(0);
-            let released = ticked.sets.released.word;
-            let ended = ticked.sets.ended.word;
-            let late = ticked.sets.late.word;
-            println!(rt; "tick 0 {served} {released} {ended} {late}")?;
-        }
-        Err(refusal) => println!(rt; "tick {} 0 0 0 0", refusal.number())?,
-    }
-    Ok(())
-}
+// What a refused call shows.
+const NO_SETS: Sets = Sets {
+    released: ServerSet::EMPTY,
+    ended: ServerSet::EMPTY,
+    late: ServerSet::EMPTY,
+};
 
-fn print_advance(
-    rt: &HostRuntime,
-    count: u64,
-    answer: Result<Advanced, Refusal>,
-) -> anyhow::Result<()> {
-    match answer {
-        Ok(run) => {
-            let served = run.served.unwrap_or(0);
-            let ticks = run.ticks;
-            let released = run.sets.released.word;
-            let ended = run.sets.ended.word;
-            let late = run.sets.late.word;
-            println!(rt; "advance {count} 0 {served} {ticks} {released} {ended} {late}")?;
-        }
-        Err(refusal) => println!(rt; "advance {count} {} 0 0 0 0 0", refusal.number())?,
-    }
-    Ok(())
-}
+const NO_TICK: Ticked = Ticked {
+    served: None,
+    sets: NO_SETS,
+};
 
-// Makes the call, and prints what was asked and what was answered.
+const NO_TICKS: Advanced = Advanced {
+    served: None,
+    ticks: 0,
+    sets: NO_SETS,
+};
+
+// Makes the call, and prints what was asked and what was answered: the number of the refusal or 0, and the values of the
+// answer, each 0 if the call was refused.
 fn make_call<R: ReleaseRule, Q: Queue, C: Queue>(
     rt: &HostRuntime,
     board: &mut Board<R, Q, C>,
     call: Call,
-) -> anyhow::Result<()>
-    requires { Agrees Q.Queue C.Queue board.old }
-    ensures keeps { Agrees Q.Queue C.Queue board.new }
-{
+) -> anyhow::Result<()> {
     match call {
-        Call::Admit(server, cap) => {
-            let refusal = refusal_number(board.admit(server, cap));
+        Call::Admit { server, cap } => {
+            let refusal = refusal_number(&board.admit(server, cap));
             println!(rt; "admit {server} {cap} {refusal}")?;
         }
-        Call::Leave(server) => {
-            let refusal = refusal_number(board.leave(server));
+        Call::Leave { server } => {
+            let refusal = refusal_number(&board.leave(server));
             println!(rt; "leave {server} {refusal}")?;
         }
-        Call::Start(server, load, limit, period) => {
-            let (refusal, end) = start_numbers(board.start(server, load, limit, period));
+        Call::Start { server, task } => {
+            let answer = board.start(server, task);
+            let refusal = refusal_number(&answer);
+            let end = answer.unwrap_or(0);
+            let Task {
+                load,
+                limit,
+                period,
+            } = task;
             println!(rt; "start {server} {load} {limit} {period} {refusal} {end}")?;
         }
-        Call::Tick => print_tick(rt, board.tick())?,
-        Call::Advance(count) => print_advance(rt, count, board.advance(count))?,
+        Call::Tick => {
+            let answer = board.tick();
+            let refusal = refusal_number(&answer);
+            let tick = answer.unwrap_or(NO_TICK);
+            let served = tick.served.unwrap_or(0);
+            println!(rt; "tick {refusal} {served} {}", Words(tick.sets))?;
+        }
+        Call::Advance { count } => {
+            let answer = board.advance(count);
+            let refusal = refusal_number(&answer);
+            let run = answer.unwrap_or(NO_TICKS);
+            let served = run.served.unwrap_or(0);
+            let ticks = run.ticks;
+            println!(rt;
+                "advance {count} {refusal} {served} {ticks} {}",
+                Words(run.sets)
+            )?;
+        }
     }
     Ok(())
 }
@@ -139,32 +125,26 @@ fn make_call<R: ReleaseRule, Q: Queue, C: Queue>(
 struct Case<'a> {
     number: u64,
     rule: &'a str,
-    list: &'a [u8],
+    list: &'a [[u8; 14]],
 }
 
 // Makes every call of the list on the board.
-fn play<R: ReleaseRule, Q: Queue, C: Queue>(
+fn play<R: ReleaseRule + Drop, Q: Queue + Drop, C: Queue + Drop>(
     rt: &HostRuntime,
     make: &str,
-    board: &mut Board<R, Q, C>,
+    mut board: Board<R, Q, C>,
     case: Case<'_>,
-) -> anyhow::Result<()>
-    requires { Agrees Q.Queue C.Queue board.old }
-    ensures keeps { Agrees Q.Queue C.Queue board.new }
-{
+) -> anyhow::Result<()> {
     println!(rt; "case {} {make} {}", case.number, case.rule)?;
-    let mut rest = case.list;
-    while let Some((call, after)) = split_call(rest) {
-        make_call(rt, board, call)?;
-        rest = after;
+    for bytes in case.list {
+        make_call(rt, &mut board, call_of(*bytes))?;
     }
     Ok(())
 }
 
-// A queue over lent memory.
-fn heap_queue(memory: &mut [Entry]) -> anyhow::Result<HeapQueue<'_>>
-    ensures sound { IfOk result Kept }
-{
+// A queue over lent memory. By `map_err`, which takes the error with the memory in it, no proof closed. Another program
+// of cases has these lines too: the error is the program's own.
+fn heap_queue(memory: &mut [Entry]) -> anyhow::Result<HeapQueue<'_>> {
     match HeapQueue::new(memory) {
         Ok(queue) => Ok(queue),
         Err(_) => Err(anyhow!("too little memory")),
@@ -183,42 +163,25 @@ fn play_makes<R: ReleaseRule + Copy>(
     };
     let mut ready = [place; 64];
     let mut calendar = [place; 64];
-    let mut board = Board::new(rule, Row::new(), Row::new());
-    play(rt, "row/row", &mut board, case)?;
-    let mut board = Board::new(rule, heap_queue(&mut ready)?, heap_queue(&mut calendar)?);
-    play(rt, "heap/heap", &mut board, case)?;
-    let mut board = Board::new(rule, Row::new(), Window::new(Row::new()));
-    play(rt, "row/window-row", &mut board, case)?;
+    let board = Board::new(rule, Row::new(), Row::new());
+    play(rt, "row/row", board, case)?;
+    let board = Board::new(rule, heap_queue(&mut ready)?, heap_queue(&mut calendar)?);
+    play(rt, "heap/heap", board, case)?;
+    let board = Board::new(rule, Row::new(), Window::new(Row::new()));
+    play(rt, "row/window-row", board, case)?;
     let window = Window::new(heap_queue(&mut calendar)?);
-    let mut board = Board::new(rule, heap_queue(&mut ready)?, window);
-    play(rt, "heap/window-heap", &mut board, case)
+    let board = Board::new(rule, heap_queue(&mut ready)?, window);
+    play(rt, "heap/window-heap", board, case)
 }
 
 fn run(rt: &HostRuntime) -> anyhow::Result<()> {
-    let bytes = fs::read(rt, "calls.pack")?;
-    let mut pack = bytes.as_slice();
-    let mut number: u64 = 0;
-    while let Some((list, after)) = split_item(pack) {
-        number = number.saturating_add(1);
-        play_makes(
-            rt,
-            Late,
-            Case {
-                number,
-                rule: "late",
-                list,
-            },
-        )?;
-        play_makes(
-            rt,
-            Early,
-            Case {
-                number,
-                rule: "early",
-                list,
-            },
-        )?;
-        pack = after;
+    let pack = fs::read(rt, "calls.pack")?;
+    for (number, bytes) in (1u64..).zip(Items::new(pack.as_slice())) {
+        let (list, _) = bytes.as_chunks();
+        let rule = "late";
+        play_makes(rt, Late, Case { number, rule, list })?;
+        let rule = "early";
+        play_makes(rt, Early, Case { number, rule, list })?;
     }
     Ok(())
 }

@@ -1,3 +1,4 @@
+pub mod Orders
 pub mod Moves
 pub mod Rise
 pub mod Sorting

@@ -1,12 +1,17 @@
 // The heap and what it holds.
-use crate::order::Ordered;
+ghost use Rattle.heaps.specs.Orders.{at_or_before};
+ghost use Rattle.heaps.specs.Heaps.{Heaped};
+ghost use Rattle.std.specs.Prelude.{◌≤◌, length};
 
 mod methods;
 mod sizes;
 
-// The first `len` of the lent places hold the entries: the parent of each is at or before it.
+// The first `len` of the lent places hold the entries: the parent of each is at or before it. The length stands beside
+// the memory since a host lends it, of any length, and nothing is allocated.
 #[derive(Drop)]
-pub struct Heap<'a, E: Ordered> {
+pub struct Heap<'a, E: Ord + Copy> {
     places: &'a mut [E],
     len: usize,
+    ghost within: { len ≤ length places.now },
+    ghost heaped: { Heaped (at_or_before E.cmp) places.now len },
 }

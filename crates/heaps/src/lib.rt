@@ -8,7 +8,7 @@ mod sifts;
 
 pub use first::take_first;
 pub use heap::Heap;
-pub use order::{Ordered, Strict};
+pub use order::Strict;
 
 #[cfg(test)]
 mod tests;

@@ -1,21 +1,4 @@
-ghost use Rattle.std.specs.Prelude.{nat_le};
-ghost use Rattle.std.proofs.Common.{rules};
-
 use crate::heap::Heap;
-use crate::order::Ordered;
-
-// Numbers by their size.
-impl Ordered for u32 {
-    ghost at_or_before = { nat_le };
-
-    ghost total = { Prim.search rules };
-
-    ghost carries = { Prim.search rules };
-
-    fn at_or_before(&self, other: &u32) -> bool {
-        *self <= *other
-    }
-}
 
 #[test]
 fn takes_in_order(rt: HostRuntime) {

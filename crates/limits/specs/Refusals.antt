@@ -1,5 +1,5 @@
 -- The numbers by which refusals and layers are known, and how a fault is written.
-use Rattle.std.specs.Prelude.{ℕ, List, ◌++◌, codes, decimal}
+use Rattle.std.specs.Prelude.{ℕ, List, ◌++◌, codes, decimal, Ok, Err, Result}
 use Rattle.limits.specs.declared.fault.Fault.{Fault}
 use Rattle.limits.specs.declared.fault.Layer.{Layer}
 use Rattle.limits.specs.declared.fault.Layer.TheVariants.{RecordBytes, PlanValues, Script}
@@ -30,6 +30,11 @@ number ClockAtHorizon = 26
 number EntryAlreadyQueued = 27
 number TooLittleMemory = 28
 number MemoryFull = 29
+
+-- the number of the refusal, 0 if there is none
+abbrev pub refusal_number_of : {T : Type 0} → Result T Refusal → ℕ
+refusal_number_of (Ok x) = 0
+refusal_number_of (Err why) = number why
 
 abbrev pub layer_number : Layer → ℕ
 layer_number RecordBytes = 1

@@ -1,7 +1,7 @@
 // What is wrong with an input, and where.
 ghost use Rattle.limits.specs.Refusals.{fault_text, layer_number};
-ghost use Rattle.limits.specs.declared.fault.ReadError.TheVariants.{NoMemory as OutOfMemory};
-ghost use Rattle.std.specs.Prelude.{◌≡◌, Some};
+ghost use Rattle.limits.specs.declared.fault.ReadError.TheVariants.{Fault as AtFault, NoMemory as OutOfMemory};
+ghost use Rattle.std.specs.Prelude.{◌≡◌, Some, MatchResult};
 
 use crate::refusal::Refusal;
 use std::alloc::{AllocError, AllocFailed};
@@ -16,6 +16,7 @@ pub enum Layer {
 }
 
 impl Layer {
+    // One cast, as that of a refusal.
     pub fn number(self) -> u8
         ensures answer { result ≡ layer_number self }
     {
@@ -46,6 +47,26 @@ impl fmt::Display for Fault {
 pub enum ReadError {
     Fault(Fault),
     NoMemory,
+}
+
+impl ReadError {
+    // The fault that is to be told, if it is not that memory wants.
+    pub fn fault(self) -> Result<Fault, AllocError>
+        ensures answer { MatchResult result (λ f. self ≡ AtFault f) (λ _. self ≡ OutOfMemory) }
+    {
+        match self {
+            ReadError::Fault(fault) => Ok(fault),
+            ReadError::NoMemory => Err(AllocError),
+        }
+    }
+}
+
+impl From<Fault> for ReadError {
+    ghost from_gives = { λ f r. r ≡ AtFault f };
+
+    fn from(found: Fault) -> ReadError {
+        ReadError::Fault(found)
+    }
 }
 
 impl From<AllocError> for ReadError {

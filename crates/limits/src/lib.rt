@@ -4,7 +4,9 @@
 mod fault;
 mod ranges;
 mod refusal;
+mod task;
 
 pub use fault::{Fault, Layer, ReadError};
-pub use ranges::{CAP_UNIT, HORIZON, MOST_TICKS, SERVERS, check_action, check_cap, check_server};
-pub use refusal::Refusal;
+pub use ranges::{CAP_UNIT, HORIZON, MOST_TICKS, SERVERS, check_cap, check_server};
+pub use refusal::{Refusal, refusal_number};
+pub use task::Task;

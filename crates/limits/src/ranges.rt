@@ -1,5 +1,5 @@
 // The ranges of the subject, and the checks of the values that are handed over.
-ghost use Rattle.limits.specs.Checks.{action_check, cap_check, server_check};
+ghost use Rattle.limits.specs.Checks.{cap_check, server_check};
 ghost use Rattle.std.specs.Result.{result_err};
 ghost use Rattle.std.specs.Prelude.{◌≡◌};
 
@@ -17,11 +17,12 @@ pub const CAP_UNIT: u32 = 1_000_000;
 // The most ticks that a load or a period has.
 pub const MOST_TICKS: u32 = 1_000_000;
 
-// Refuses a server number outside 1 to 64.
+// Refuses a server number outside 1 to 64. One function for this and the next would take the type, the end of the range
+// and the refusal, and say no more.
 pub fn check_server(number: u8) -> Result<(), Refusal>
     ensures answer { result_err result ≡ server_check number }
 {
-    if number < 1 || number > SERVERS {
+    if !(1..=SERVERS).contains(&number) {
         return Err(Refusal::ServerNumber);
     }
     Ok(())
@@ -31,24 +32,8 @@ pub fn check_server(number: u8) -> Result<(), Refusal>
 pub fn check_cap(cap: u32) -> Result<(), Refusal>
     ensures answer { result_err result ≡ cap_check «cap» }
 {
-    if cap < 1 || cap > CAP_UNIT {
+    if !(1..=CAP_UNIT).contains(&cap) {
         return Err(Refusal::Cap);
-    }
-    Ok(())
-}
-
-// Refuses a load, a period or a limit out of range, the load first and the limit last.
-pub fn check_action(load: u32, limit: u32, period: u32) -> Result<(), Refusal>
-    ensures answer { result_err result ≡ action_check load limit period }
-{
-    if load < 1 || load > MOST_TICKS {
-        return Err(Refusal::Load);
-    }
-    if period < 1 || period > MOST_TICKS {
-        return Err(Refusal::Period);
-    }
-    if limit < 1 || limit > period {
-        return Err(Refusal::Limit);
     }
     Ok(())
 }

@@ -1,5 +1,5 @@
 // Why a call or an input is refused. The numbers are fixed: sheets and hosts know refusals by them.
-ghost use Rattle.limits.specs.Refusals.{number};
+ghost use Rattle.limits.specs.Refusals.{number, refusal_number_of};
 ghost use Rattle.std.specs.Prelude.{◌≡◌};
 
 #[derive(Clone, Copy, PartialEq, Eq, Debug)]
@@ -32,9 +32,17 @@ pub enum Refusal {
 }
 
 impl Refusal {
+    // One cast: a `From` would only add an impl that says the same.
     pub fn number(self) -> u8
         ensures answer { result ≡ number self }
     {
         self as u8
     }
+}
+
+// The number of the refusal, 0 if there is none.
+pub fn refusal_number<T>(answer: &Result<T, Refusal>) -> u8
+    ensures answer { result ≡ refusal_number_of answer.now }
+{
+    answer.as_ref().err().map_or(0, |why| why.number())
 }

@@ -2,20 +2,35 @@
 // the low byte first, and then its bytes.
 #![tactic(auto)]
 
-ghost use Rattle.std.specs.Prelude.{◌≤◌, length};
 ghost use Rattle.packs.specs.Items.{Split};
+
+use std::alloc::AllocError;
+use std::{fs, io};
+
+mod items;
+
+pub use items::Items;
 
 // The item at the front of a pack, and the pack after it.
 pub fn split_item(pack: &[u8]) -> Option<(&[u8], &[u8])>
     ensures answer { Split pack.now result }
 {
-    if pack.len() < 4 {
-        return None;
+    let (size, items) = pack.split_first_chunk()?;
+    items.split_at_checked(u32::from_le_bytes(*size) as usize)
+}
+
+// Prints the number of each item of a pack, counted from 1, and the text of the item.
+pub fn print_cases<F: Fn(&[u8]) -> Result<String, AllocError>>(
+    rt: &HostRuntime,
+    path: &str,
+    text_of: F,
+) -> io::Result<()>
+    requires { F.IsAlwaysCallable text_of }
+{
+    let pack = fs::read(rt, path)?;
+    for (number, item) in (1u64..).zip(Items::new(pack.as_slice())) {
+        let text = text_of(item)?;
+        print!(rt; "case {number}\n{text}")?;
     }
-    let size = u32::from_le_bytes([pack[0], pack[1], pack[2], pack[3]]) as usize;
-    let (_, items) = pack.split_at(4);
-    if items.len() < size {
-        return None;
-    }
-    Some(items.split_at(size))
+    Ok(())
 }

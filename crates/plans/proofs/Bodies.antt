@@ -1,8 +1,8 @@
 -- The records of servers, and what the checks find among them.
-use Rattle.std.proofs.Common.{◌≡◌, ℕ, ◌-◌, true, false, cond, eqb, ltb, List, [], ◌∷◌, ◌++◌, map, length, get_or, take, is_some, Some, filter, sym, refl, ap, ◌∙◌, arith}
+use Rattle.std.proofs.Common.{◌≡◌, ℕ, ◌-◌, true, false, ◌||◌, eqb, ltb, List, [], ◌∷◌, ◌++◌, map, length, get_or, take, filter, sym, refl, ap, ◌∙◌, arith}
 use Rattle.plans.proofs.Lasts.{last_of_push, split_last}
 use Rattle.plans.specs.Faults.{any_server, check, is_server, latest, record_check}
-use Rattle.plans.specs.Numbers.{has, numbered}
+use Rattle.plans.specs.Numbers.{has}
 use Rattle.plans.specs.Plans.{action_record, actions_of, body_records, own_records, server_record}
 use Rattle.plans.specs.Steps.{check_after, last_actions}
 use Rattle.plans.specs.declared.record.Record.{Record}
@@ -19,8 +19,7 @@ body_push ss s = sym (flat_map_more own_records [] ss s)
 -- a number is found in a list as it is found in what the list is mapped to
 pub has_map : {X Y : Type 0} (g : Y → ℕ) (f : X → Y) (n : ℕ) (xs : List X) → has g n (map f xs) ≡ has (λ x. g (f x)) n xs
 has_map g f n [] = refl
-has_map g f n (x ∷ xs) =
-    elim (eqb (g (f x)) n) as (λ b. is_some (cond b (Some (f x)) (numbered g n (map f xs))) ≡ is_some (cond b (Some x) (numbered (λ y. g (f y)) n xs))) [ true ↦ refl | false ↦ has_map g f n xs ]
+has_map g f n (x ∷ xs) = ap (λ b. eqb (g (f x)) n || b) (has_map g f n xs)
 
 no_servers : (xs : List Action) → filter is_server (map action_record xs) ≡ []
 no_servers [] = refl

@@ -1,41 +1,34 @@
 -- Lists whose numbers are distinct, and lists that pass a test: one more at the end, and one in the middle.
-use Rattle.std.proofs.Common.{◌≡◌, ℕ, Bool, true, false, cond, not, ◌||◌, eqb, List, [], ◌∷◌, ◌++◌, is_some, Some, sym, refl, ap, ◌∙◌}
-use Rattle.plans.specs.Numbers.{all, distinct, has, numbered}
+use Rattle.std.proofs.Common.{◌≡◌, ℕ, Bool, true, false, not, eqb, List, [], ◌∷◌, ◌++◌, sym, refl, ap, ◌∙◌}
+use Rattle.plans.specs.Numbers.{distinct, has}
 use Rattle.std.proofs.lemmas.Bool.{and_from, and_parts, both_ways, eq-eqb, ne_eqb, not_from_false, not-true, or_from, or_left, or_parts, or_right}
+use Rattle.std.proofs.lemmas.List.Folds.{list_all-append, list_any-append}
+use Rattle.std.specs.List.{list_all}
 
 module _ {X : Type 0} (test : X → Bool) where
-  pub all_push : (xs : List X) (x : X) → all test xs ≡ true → test x ≡ true → all test (xs ++ x ∷ []) ≡ true
-  all_push [] x p q = and_from (test x) true q refl
-  all_push (y ∷ xs) x p q = let b = and_parts (test y) _ p in and_from (test y) _ b.0 (all_push xs x b.1 q)
+  pub all_push : (xs : List X) (x : X) → list_all test xs ≡ true → test x ≡ true → list_all test (xs ++ x ∷ []) ≡ true
+  all_push xs x p q = list_all-append test xs (x ∷ []) ∙ and_from (list_all test xs) _ p (and_from (test x) true q refl)
 
-  pub all_middle : (xs : List X) (x : X) (ys : List X) → all test (xs ++ x ∷ ys) ≡ true → test x ≡ true
-  all_middle [] x ys p = (and_parts (test x) _ p).0
-  all_middle (y ∷ xs) x ys p = all_middle xs x ys (and_parts (test y) _ p).1
+  all_parts : (xs ys : List X) → list_all test (xs ++ ys) ≡ true → (list_all test xs ≡ true) × (list_all test ys ≡ true)
+  all_parts xs ys p = and_parts (list_all test xs) _ (sym (list_all-append test xs ys) ∙ p)
 
-  pub all_front : (xs ys : List X) → all test (xs ++ ys) ≡ true → all test xs ≡ true
-  all_front [] ys p = refl
-  all_front (y ∷ xs) ys p = let b = and_parts (test y) _ p in and_from (test y) _ b.0 (all_front xs ys b.1)
+  pub all_middle : (xs : List X) (x : X) (ys : List X) → list_all test (xs ++ x ∷ ys) ≡ true → test x ≡ true
+  all_middle xs x ys p = (and_parts (test x) _ (all_parts xs (x ∷ ys) p).1).0
+
+  pub all_front : (xs ys : List X) → list_all test (xs ++ ys) ≡ true → list_all test xs ≡ true
+  all_front xs ys p = (all_parts xs ys p).0
 
 module _ {X : Type 0} (number : X → ℕ) where
-  has_cons : (n : ℕ) (x : X) (xs : List X) → has number n (x ∷ xs) ≡ (eqb (number x) n || has number n xs)
-  has_cons n x xs =
-      elim (eqb (number x) n) as (λ b. is_some (cond b (Some x) (numbered number n xs)) ≡ (b || is_some (numbered number n xs))) [ true ↦ refl | false ↦ refl ]
-
   has_not_push : (n : ℕ) (xs : List X) (x : X) → has number n xs ≡ false → (number x ≡ n → ⊥) → has number n (xs ++ x ∷ []) ≡ false
-  has_not_push n [] x p q = has_cons n x [] ∙ or_from (eqb (number x) n) false (ne_eqb (number x) n q) refl
-  has_not_push n (y ∷ xs) x p q =
-      let b = or_parts (eqb (number y) n) _ (sym (has_cons n y xs) ∙ p) in
-      has_cons n y (xs ++ x ∷ []) ∙ or_from (eqb (number y) n) _ b.0 (has_not_push n xs x b.1 q)
+  has_not_push n xs x p q =
+      list_any-append (λ y. eqb (number y) n) xs (x ∷ []) ∙ or_from (has number n xs) _ p (or_from (eqb (number x) n) false (ne_eqb (number x) n q) refl)
 
   has_middle : (xs : List X) (x : X) (ys : List X) → has number (number x) (xs ++ x ∷ ys) ≡ true
-  has_middle [] x ys = has_cons (number x) x ys ∙ or_left (eqb (number x) (number x)) _ (eq-eqb (number x) (number x) refl)
-  has_middle (y ∷ xs) x ys = has_cons (number x) y (xs ++ x ∷ ys) ∙ or_right (eqb (number y) (number x)) _ (has_middle xs x ys)
+  has_middle xs x ys =
+      list_any-append (λ y. eqb (number y) (number x)) xs (x ∷ ys) ∙ or_right (has number (number x) xs) _ (or_left (eqb (number x) (number x)) _ (eq-eqb (number x) (number x) refl))
 
   has_front : (n : ℕ) (xs ys : List X) → has number n (xs ++ ys) ≡ false → has number n xs ≡ false
-  has_front n [] ys p = refl
-  has_front n (y ∷ xs) ys p =
-      let b = or_parts (eqb (number y) n) _ (sym (has_cons n y (xs ++ ys)) ∙ p) in
-      has_cons n y xs ∙ or_from (eqb (number y) n) _ b.0 (has_front n xs ys b.1)
+  has_front n xs ys p = (or_parts (has number n xs) _ (sym (list_any-append (λ y. eqb (number y) n) xs ys) ∙ p)).0
 
   pub distinct_front : (xs ys : List X) → distinct number (xs ++ ys) ≡ true → distinct number xs ≡ true
   distinct_front [] ys p = refl
@@ -48,7 +41,7 @@ module _ {X : Type 0} (number : X → ℕ) where
   distinct_push [] x p q = refl
   distinct_push (y ∷ xs) x p q =
       let b = and_parts (not (has number (number y) xs)) _ p in
-      let o = or_parts (eqb (number y) (number x)) _ (sym (has_cons (number x) y xs) ∙ q) in
+      let o = or_parts (eqb (number y) (number x)) _ q in
       and_from _ _
       (not_from_false _ (has_not_push (number y) xs x (not-true _ b.0) (λ e. both_ways _ o.0 (eq-eqb (number y) (number x) (sym e)))))
       (distinct_push xs x b.1 o.1)
@@ -58,7 +51,6 @@ module _ {X : Type 0} (number : X → ℕ) where
   distinct_middle [] x ys p = refl
   distinct_middle (y ∷ xs) x ys p =
       let b = and_parts (not (has number (number y) (xs ++ x ∷ ys))) _ p in
-      has_cons (number x) y xs
-      ∙ or_from (eqb (number y) (number x)) _
+      or_from (eqb (number y) (number x)) _
       (ne_eqb (number y) (number x) (λ e. both_ways _ (not-true _ b.0) (ap (λ n. has number n (xs ++ x ∷ ys)) e ∙ has_middle xs x ys)))
       (distinct_middle xs x ys b.1)

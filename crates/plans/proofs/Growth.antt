@@ -4,7 +4,7 @@ use Rattle.plans.proofs.Bodies.{body_push}
 use Rattle.plans.proofs.Distinct.{all_front, all_middle, all_push, distinct_front, distinct_middle, distinct_push}
 use Rattle.plans.proofs.Lasts.{last_of_push}
 use Rattle.plans.proofs.Passing.{action_passed, server_passed}
-use Rattle.plans.specs.Numbers.{all, distinct, has}
+use Rattle.plans.specs.Numbers.{distinct, has}
 use Rattle.limits.specs.Ranges.{servers, unit}
 use Rattle.plans.specs.Plans.{action_record, actions_of, body_records, own_records, server_record, valid_action, valid_server, valid_servers, within}
 use Rattle.plans.specs.Steps.{Added, check_after, entry_record, last_actions}
@@ -14,6 +14,7 @@ use Rattle.plans.specs.declared.server.Action.{Action}
 use Rattle.plans.specs.declared.server.Server.{Server}
 use Rattle.std.proofs.lemmas.List.{append_assoc, map_push}
 use Rattle.std.proofs.lemmas.Bool.{and_from, and_parts}
+use Rattle.std.specs.List.{list_all}
 
 own_push : (old new : Server) (a : Action) → new.number ≡ old.number → new.cap ≡ old.cap → actions_of new ≡ actions_of old ++ a ∷ [] → own_records new ≡ own_records old ++ action_record a ∷ []
 own_push old new a n c more =
@@ -42,23 +43,23 @@ action_number a = a.number
 pub grown_valid : (e : Entry) (ss ts : List Server) → Added e ss ts → (entry_record e).number < 256 → check_after ss (entry_record e) ≡ None → valid_servers ss ≡ true → valid_servers ts ≡ true
 grown_valid (NewServer n c) ss ts g small passed valid =
     let p = server_passed true (has server_number n ss) true n c passed in
-    let v = and_parts (all valid_server ss) _ valid in
+    let v = and_parts (list_all valid_server ss) _ valid in
     let new : valid_server g.new ≡ true =
-    and_from _ _ (ap (λ m. within m servers) g.named ∙ p.number_in) (and_from _ _ (ap (λ m. within m unit) g.capped ∙ p.cap_in_lem) (and_from _ _ (ap (all valid_action) g.bare) (ap (distinct action_number) g.bare))) in
+    and_from _ _ (ap (λ m. within m servers) g.named ∙ p.number_in) (and_from _ _ (ap (λ m. within m unit) g.capped ∙ p.cap_in_lem) (and_from _ _ (ap (list_all valid_action) g.bare) (ap (distinct action_number) g.bare))) in
     ap valid_servers g.after
     ∙ and_from _ _ (all_push valid_server ss g.new v.0 new) (distinct_push server_number ss g.new v.1 (ap (λ m. has server_number m ss) g.named ∙ p.fresh))
 grown_valid (NewAction a) ss ts g small passed valid =
     let p = action_passed (ltb 0 (length ss)) true (has action_number a.number (last_actions ss)) a small passed in
     let last : last_actions ss ≡ actions_of g.old = ap last_actions g.before ∙ last_of_push g.front g.old in
-    let v = and_parts (all valid_server (g.front ++ g.old ∷ [])) _ (ap valid_servers (sym g.before) ∙ valid) in
+    let v = and_parts (list_all valid_server (g.front ++ g.old ∷ [])) _ (ap valid_servers (sym g.before) ∙ valid) in
     let old = all_middle valid_server g.front g.old [] v.0 in
     let o = and_parts (within g.old.number servers) _ old in
     let q = and_parts (within g.old.cap unit) _ o.1 in
-    let r = and_parts (all valid_action (actions_of g.old)) _ q.1 in
+    let r = and_parts (list_all valid_action (actions_of g.old)) _ q.1 in
     let fresh : has action_number a.number (actions_of g.old) ≡ false = ap (has action_number a.number) (sym last) ∙ p.fresh in
     let new : valid_server g.new ≡ true =
     and_from _ _ (ap (λ m. within m servers) g.named ∙ o.0) (and_from _ _ (ap (λ m. within m unit) g.capped ∙ q.0)
-    (and_from _ _ (ap (all valid_action) g.longer ∙ all_push valid_action (actions_of g.old) a r.0 p.ranges)
+    (and_from _ _ (ap (list_all valid_action) g.longer ∙ all_push valid_action (actions_of g.old) a r.0 p.ranges)
     (ap (distinct action_number) g.longer ∙ distinct_push action_number (actions_of g.old) a r.1 fresh))) in
     ap valid_servers g.after
     ∙ and_from _ _ (all_push valid_server g.front g.new (all_front valid_server g.front _ v.0) new)

@@ -1,4 +1,3 @@
-pub mod Finds
 pub mod Lasts
 pub mod Words
 pub mod Bodies
@@ -8,4 +7,4 @@ pub mod Growth
 pub mod Reading
 pub mod NoFault
 pub mod Unique
-pub mod Joins
+pub mod Counts

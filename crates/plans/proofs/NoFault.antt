@@ -8,7 +8,7 @@ use Rattle.plans.proofs.Distinct.{all_middle, distinct_middle}
 use Rattle.plans.proofs.Passing.{action_passes, server_passes}
 use Rattle.plans.proofs.Words.{Fit, length_written, record_written, records_written}
 use Rattle.plans.specs.Faults.{FirstRecord, InOrder, any_server, check, count_of, is_server, latest, plan_fault_of, records, sized}
-use Rattle.plans.specs.Numbers.{all, distinct, has}
+use Rattle.plans.specs.Numbers.{distinct, has}
 use Rattle.plans.specs.Plans.{action_record, actions_of, body_records, encoding, head_record, own_records, plan_records, server_record, valid, valid_action, valid_server, valid_servers, within}
 use Rattle.plans.specs.Reads.{NotRead, servers_of}
 use Rattle.plans.specs.Records.{record_at}
@@ -21,7 +21,7 @@ use Rattle.plans.specs.declared.server.Server.{Server}
 use Rattle.std.proofs.ByRecursion.{All-append}
 use Rattle.std.proofs.lemmas.List.{append_assoc, append-nil, get_or_append_left, get_or_at, length_push, map_push, take_all, take-append-le, take_at}
 use Rattle.std.proofs.lemmas.Bool.{and_from, and_parts, both_ways, eq-eqb, le-leb, leb-true, ltb-false, not-true, or_parts}
-use Rattle.std.specs.List.{AllByRecursion as All}
+use Rattle.std.specs.List.{list_all, AllByRecursion as All}
 
 abbrev server_number : Server → ℕ
 server_number s = s.number
@@ -45,7 +45,7 @@ module _ (h : Record) where
       j (omega (arith, length_push rs r))
 
   -- a server's actions, one after another
-  clean_actions : (front : List Record) (s : Server) (done todo : List Action) → all valid_action (done ++ todo) ≡ true → distinct action_number (done ++ todo) ≡ true → Clean (front ++ server_record s ∷ map action_record done) → Clean (front ++ server_record s ∷ map action_record (done ++ todo))
+  clean_actions : (front : List Record) (s : Server) (done todo : List Action) → list_all valid_action (done ++ todo) ≡ true → distinct action_number (done ++ todo) ≡ true → Clean (front ++ server_record s ∷ map action_record done) → Clean (front ++ server_record s ∷ map action_record (done ++ todo))
   clean_actions front s done [] v d c = subst (λ xs. Clean (front ++ server_record s ∷ map action_record xs)) (sym (append-nil done)) c
   clean_actions front s done (a ∷ todo) v d c =
       let before = front ++ server_record s ∷ map action_record done in
@@ -58,17 +58,17 @@ module _ (h : Record) where
       append_assoc front (server_record s ∷ map action_record done) (action_record a ∷ []) ∙ ap (λ rs. front ++ server_record s ∷ rs) (sym (map_push action_record done a)) in
       let regroup : (done ++ a ∷ []) ++ todo ≡ done ++ a ∷ todo = append_assoc done (a ∷ []) todo in
       subst (λ xs. Clean (front ++ server_record s ∷ map action_record xs)) regroup
-      (clean_actions front s (done ++ a ∷ []) todo (ap (all valid_action) regroup ∙ v) (ap (distinct action_number) regroup ∙ d)
+      (clean_actions front s (done ++ a ∷ []) todo (ap (list_all valid_action) regroup ∙ v) (ap (distinct action_number) regroup ∙ d)
       (subst Clean pushed (clean_push before (action_record a) c passes)))
 
   clean_servers : (done todo : List Server) → valid_servers (done ++ todo) ≡ true → Clean (body_records done) → Clean (body_records (done ++ todo))
   clean_servers done [] v c = subst (λ ss. Clean (body_records ss)) (sym (append-nil done)) c
   clean_servers done (s ∷ todo) v c =
-      let b = and_parts (all valid_server (done ++ s ∷ todo)) _ v in
+      let b = and_parts (list_all valid_server (done ++ s ∷ todo)) _ v in
       let own = all_middle valid_server done s todo b.0 in
       let n = and_parts (within s.number servers) _ own in
       let k = and_parts (within s.cap unit) _ n.1 in
-      let l = and_parts (all valid_action (actions_of s)) _ k.1 in
+      let l = and_parts (list_all valid_action (actions_of s)) _ k.1 in
       let passes : check (h ∷ body_records done) (server_record s) ≡ None =
       check_body h done (server_record s)
       ∙ server_passes true (has server_number s.number done) true s.number s.cap
@@ -85,15 +85,15 @@ within_true n top e = ltb-false top n (or_parts (ltb n 1) (ltb top n) (not-true 
 fit_action : (a : Action) → valid_action a ≡ true → Fit (action_record a)
 fit_action a v =
     let n = and_parts (within a.number 255) _ v in
-    let l = and_parts (within a.load most_ticks) _ n.1 in
-    let p = and_parts (within a.period most_ticks) _ l.1 in
+    let l = and_parts (within a.task.load most_ticks) _ n.1 in
+    let p = and_parts (within a.task.period most_ticks) _ l.1 in
     let number = within_true a.number 255 n.0 in
-    let load = within_true a.load most_ticks l.0 in
-    let period = within_true a.period most_ticks p.0 in
-    let limit = within_true a.limit a.period p.1 in
+    let load = within_true a.task.load most_ticks l.0 in
+    let period = within_true a.task.period most_ticks p.0 in
+    let limit = within_true a.task.limit a.task.period p.1 in
     record { kind_fits = omega arith; number_fits = omega arith; zeros_fit = omega arith; first_fits = omega arith; second_fits = omega arith; third_fits = omega arith }
 
-fit_actions : (xs : List Action) → all valid_action xs ≡ true → All Fit (map action_record xs)
+fit_actions : (xs : List Action) → list_all valid_action xs ≡ true → All Fit (map action_record xs)
 fit_actions [] v = tt
 fit_actions (a ∷ xs) v = let b = and_parts (valid_action a) _ v in (fit_action a b.0, fit_actions xs b.1)
 
@@ -101,12 +101,12 @@ fit_own : (s : Server) → valid_server s ≡ true → All Fit (own_records s)
 fit_own s v =
     let n = and_parts (within s.number servers) _ v in
     let k = and_parts (within s.cap unit) _ n.1 in
-    let l = and_parts (all valid_action (actions_of s)) _ k.1 in
+    let l = and_parts (list_all valid_action (actions_of s)) _ k.1 in
     let number = within_true s.number servers n.0 in
     let bound = within_true s.cap unit k.0 in
     (record { kind_fits = omega arith; number_fits = omega arith; zeros_fit = omega arith; first_fits = omega arith; second_fits = omega arith; third_fits = omega arith }, fit_actions (actions_of s) l.0)
 
-fit_body : (ss : List Server) → all valid_server ss ≡ true → All Fit (body_records ss)
+fit_body : (ss : List Server) → list_all valid_server ss ≡ true → All Fit (body_records ss)
 fit_body [] v = tt
 fit_body (s ∷ ss) v = let b = and_parts (valid_server s) _ v in All-append Fit (own_records s) (body_records ss) (fit_own s b.0) (fit_body ss b.1)
 
@@ -116,7 +116,7 @@ module _ (ss : List Server) (v : valid ss ≡ true) where
 
   fit : All Fit (plan_records ss)
   fit =
-      let b = and_parts (all valid_server ss) _ (and_parts (valid_servers ss) _ v).0 in
+      let b = and_parts (list_all valid_server ss) _ (and_parts (valid_servers ss) _ v).0 in
       let few = size in
       (record { kind_fits = omega arith; number_fits = omega arith; zeros_fit = omega arith; first_fits = omega arith; second_fits = omega arith; third_fits = omega arith }, fit_body ss b.0)
 

@@ -45,10 +45,10 @@ pub action_passed : (any also there : Bool) (a : Action) → a.number < 256 → 
 action_passed any also there a small e =
     let f = refuse_none (not (not (eqb a.number 0))) _ _ e in
     let o = refuse_none (not any) _ _ f.1 in
-    let r = or_none (action_check a.load a.limit a.period) _ o.1 in
-    let l = refuse_none (outside a.load most_ticks) _ _ r.0 in
-    let p = refuse_none (outside a.period most_ticks) _ _ l.1 in
-    let m = refuse_none (outside a.limit a.period) _ _ p.1 in
+    let r = or_none (action_check a.task.load a.task.limit a.task.period) _ o.1 in
+    let l = refuse_none (outside a.task.load most_ticks) _ _ r.0 in
+    let p = refuse_none (outside a.task.period most_ticks) _ _ l.1 in
+    let m = refuse_none (outside a.task.limit a.task.period) _ _ p.1 in
     let some = eqb-false a.number 0 (not-true _ (not-false _ f.0)) in
     let number : outside a.number 255 ≡ false = or_from (ltb a.number 1) (ltb 255 a.number) (le-ltb a.number 1 (omega arith)) (le-ltb 255 a.number (omega arith)) in
     record {
@@ -60,11 +60,11 @@ action_passed any also there a small e =
 pub action_passes : (any also there : Bool) (a : Action) → ActionPasses a any there → record_check any also there (action_record a) ≡ None
 action_passes any also there a q =
     let n = and_parts (within a.number 255) _ q.ranges in
-    let l = and_parts (within a.load most_ticks) _ n.1 in
-    let p = and_parts (within a.period most_ticks) _ l.1 in
+    let l = and_parts (within a.task.load most_ticks) _ n.1 in
+    let p = and_parts (within a.task.period most_ticks) _ l.1 in
     let low = ltb-false a.number 1 (or_parts (ltb a.number 1) (ltb 255 a.number) (not-true _ n.0)).0 in
     none_refuse (not (not (eqb a.number 0))) _ _ (not_from_true _ (not_from_false _ (ne_eqb a.number 0 (λ e. omega arith))))
     (none_refuse (not any) _ _ (not_from_true _ q.owned)
-    (none_or (action_check a.load a.limit a.period) _
-    (none_refuse (outside a.load most_ticks) _ _ (not-true _ l.0) (none_refuse (outside a.period most_ticks) _ _ (not-true _ p.0) (none_refuse (outside a.limit a.period) _ _ (not-true _ p.1) refl)))
+    (none_or (action_check a.task.load a.task.limit a.task.period) _
+    (none_refuse (outside a.task.load most_ticks) _ _ (not-true _ l.0) (none_refuse (outside a.task.period most_ticks) _ _ (not-true _ p.0) (none_refuse (outside a.task.limit a.task.period) _ _ (not-true _ p.1) refl)))
     (none_refuse there _ None q.fresh refl)))

@@ -1,5 +1,5 @@
 -- The reader's loop: what holds after the records before a place.
-use Rattle.std.proofs.Common.{◌≡◌, ℕ, zero, suc, ◌+◌, ◌*◌, ◌<◌, ◌≤◌, true, false, eqb, leb, List, [], ◌∷◌, ◌++◌, length, get_or, Some, None, Err, sym, refl, ap, ◌∙◌, subst, arith, below_more}
+use Rattle.std.proofs.Common.{◌≡◌, ℕ, ◌+◌, ◌*◌, ◌<◌, ◌≤◌, true, false, eqb, leb, List, [], ◌∷◌, ◌++◌, length, get_or, Some, Err, sym, ap, ◌∙◌, subst, arith, below_more}
 use Rattle.limits.specs.declared.fault.Fault.{Fault}
 use Rattle.limits.specs.declared.refusal.Refusal.TheVariants.{RecordForm}
 use Rattle.plans.proofs.Bodies.{check_body}
@@ -13,9 +13,8 @@ use Rattle.limits.specs.declared.fault.ReadError.{ReadError}
 use Rattle.limits.specs.declared.fault.ReadError.TheVariants.{Fault as AtFault, NoMemory}
 use Rattle.plans.specs.declared.record.Record.{Record}
 use Rattle.plans.specs.declared.server.Server.{Server}
-use Rattle.limits.proofs.Passed.{none_refuse}
 use Rattle.std.proofs.lemmas.List.FromFn.{length-map-range_with_len, map-range_with_len_more}
-use Rattle.std.proofs.lemmas.Bool.{and_from, and_parts, cond-true, eqb-true, le-leb, leb-true, not_from_false, not_from_true}
+use Rattle.std.proofs.lemmas.Bool.{and_from, and_parts, cond-true, eqb-true, le-leb, leb-true, not_from_false}
 use Rattle.std.specs.List.{flat_map}
 
 -- the records before the place are in order, and those after the head are the servers'
@@ -49,18 +48,6 @@ module _ (bytes : List ℕ) where
         here = subst (λ p. check (records bytes p) (record_at bytes p) ≡ Some f.refusal) at (cond-true _ _ _ (not_from_false _ h) ∙ ap (λ w. Some w) why);
         layer = e ∙ (λ i. plan_fault_of (why i) (at i));
       }
-
-  head_passes : head_form (record_at bytes 0) ≡ true → (j : ℕ) → j < 1 → check (records bytes j) (record_at bytes j) ≡ None
-  head_passes h zero l = none_refuse _ _ None (not_from_true _ h) refl
-  head_passes h (suc j) l = absurd (omega arith)
-
-  pub reading_none : (ss : List Server) → ss ≡ [] → head_form (record_at bytes 0) ≡ true → Reading bytes 1 ss
-  reading_none ss e h = record {
-    front = ap (λ xs. record_at bytes 0 ∷ body_records xs) (sym e);
-    clean = head_passes h;
-    sound = ap valid_servers e;
-    some = omega arith;
-  }
 
   module _ (place : ℕ) (ss : List Server) (r : Reading bytes place ss) where
     -- the checks of the next record

@@ -16,7 +16,7 @@ Gathered = List Action × List Told
 abbrev gather : Record → Gathered → Gathered
 gather r g =
     cond (is_server r) ([], (r.number, r.first, g.0) ∷ g.1)
-    (record { number = r.number; load = r.first; limit = r.second; period = r.third } ∷ g.0, g.1)
+    (record { number = r.number; task = record { load = r.first; limit = r.second; period = r.third } } ∷ g.0, g.1)
 
 gathered : List Record → Gathered
 gathered [] = ([], [])

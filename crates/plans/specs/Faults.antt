@@ -1,5 +1,5 @@
 -- What is wrong with bytes that are no plan: the checks in their order, and the first that fails.
-use Rattle.std.specs.Prelude.{◌≡◌, ℕ, ◌*◌, ◌<◌, Bool, false, cond, not, ◌&&◌, ◌||◌, List, [], ◌∷◌, map, length, Some, None, MatchBool, filter, Option, ◌==◌, nat_le}
+use Rattle.std.specs.Prelude.{◌≡◌, ℕ, ◌*◌, ◌<◌, Bool, cond, not, ◌&&◌, ◌||◌, List, [], ◌∷◌, map, length, Some, None, MatchBool, filter, Option, ◌==◌, nat_le}
 use Rattle.limits.specs.Checks.{action_check, cap_check, refuse, server_check}
 use Rattle.limits.specs.Refusals.{number as refusal_number_of}
 use Rattle.limits.specs.declared.fault.Fault.{Fault}
@@ -9,7 +9,7 @@ use Rattle.limits.specs.declared.refusal.Refusal.TheVariants.{PlanSize, RecordFo
 use Rattle.plans.specs.Numbers.{has}
 use Rattle.plans.specs.Records.{record_at, word}
 use Rattle.plans.specs.declared.record.Record.{Record}
-use Rattle.std.specs.List.{range_with_len}
+use Rattle.std.specs.List.{list_any, range_with_len}
 use Rattle.std.specs.Option.{option_or}
 
 -- the head's record count
@@ -39,8 +39,7 @@ form r = r.zeros == 0 && ((is_server r && (r.second == 0 && r.third == 0)) || (i
 
 -- of the records before one: a server among them
 abbrev pub any_server : List Record → Bool
-any_server [] = false
-any_server (r ∷ rs) = is_server r || any_server rs
+any_server rs = list_any is_server rs
 
 -- those after the last server, its actions
 abbrev pub latest : List Record → List Record

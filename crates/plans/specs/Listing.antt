@@ -8,9 +8,13 @@ use Rattle.std.specs.List.{flat_map}
 abbrev pub head_line : ℕ → List ℕ
 head_line count = codes "plan of " ++ (decimal count ++ codes " records\n")
 
+-- an action, without its line feed
+abbrev pub action_text : Action → List ℕ
+action_text a =
+    codes "action " ++ (decimal a.number ++ (codes " load " ++ (decimal a.task.load ++ (codes " limit " ++ (decimal a.task.limit ++ (codes " period " ++ decimal a.task.period))))))
+
 abbrev pub action_line_of : Action → List ℕ
-action_line_of a =
-    codes "action " ++ (decimal a.number ++ (codes " load " ++ (decimal a.load ++ (codes " limit " ++ (decimal a.limit ++ (codes " period " ++ (decimal a.period ++ codes "\n")))))))
+action_line_of a = action_text a ++ codes "\n"
 
 abbrev pub server_line_of : Server → List ℕ
 server_line_of s = codes "server " ++ (decimal s.number ++ (codes " cap " ++ (decimal s.cap ++ codes "\n")))

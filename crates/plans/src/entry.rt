@@ -3,22 +3,16 @@ ghost use Rattle.std.specs.Prelude.{◌≡◌, ◌<◌, vec_len, OnOk};
 ghost use Rattle.plans.specs.Faults.{head_form};
 ghost use Rattle.plans.specs.Steps.{ActionAdded, Checked, ServerAdded};
 
-use crate::numbered::find;
+use crate::kind::Kind;
+use crate::numbered::has;
 use crate::record::Record;
 use crate::server::{Action, Server};
-use limits::{Refusal, check_action, check_cap, check_server};
+use limits::{Refusal, Task, check_cap, check_server};
 use std::alloc::{AllocError, Global};
 
-// The kinds of records.
-const HEAD: u8 = 0;
-
-const SERVER: u8 = 1;
-
-const ACTION: u8 = 2;
-
-// What a record in order adds: a server without actions (number, cap), or an action of the last server.
+// What a record in order adds: a server without actions, or an action of the last server.
 pub enum Entry {
-    NewServer(u8, u32),
+    NewServer { number: u8, cap: u32 },
     NewAction(Action),
 }
 
@@ -26,7 +20,11 @@ pub enum Entry {
 pub fn is_head(raw: &Record) -> bool
     ensures answer { result ≡ head_form raw.now }
 {
-    raw.kind == HEAD && raw.number == 0 && raw.zeros == 0 && raw.second == 0 && raw.third == 0
+    raw.kind == Kind::Head as u8
+        && raw.number == 0
+        && raw.zeros == 0
+        && raw.second == 0
+        && raw.third == 0
 }
 
 // The entry of a record that comes after those of `servers`, or the first check that it fails.
@@ -36,10 +34,10 @@ pub fn entry_of(servers: &[Server], raw: &Record) -> Result<Entry, Refusal>
     if raw.zeros != 0 {
         return Err(Refusal::RecordForm);
     }
-    match raw.kind {
-        SERVER => server_entry(servers, raw),
-        ACTION => action_entry(servers, raw),
-        _ => Err(Refusal::RecordForm),
+    match Kind::try_from(raw.kind)? {
+        Kind::Head => Err(Refusal::RecordForm),
+        Kind::Server => server_entry(servers, raw),
+        Kind::Action => action_entry(servers, raw),
     }
 }
 
@@ -52,12 +50,16 @@ fn server_entry(servers: &[Server], raw: &Record) -> Result<Entry, Refusal>
     }
     check_server(raw.number)?;
     check_cap(raw.first)?;
-    if find(servers, raw.number).is_some() {
+    if has(servers, raw.number) {
         return Err(Refusal::NumberTwice);
     }
-    Ok(Entry::NewServer(raw.number, raw.first))
+    Ok(Entry::NewServer {
+        number: raw.number,
+        cap: raw.first,
+    })
 }
 
+#[tactic(auto, using(crate::proofs::Lasts::last_actions_lem))]
 fn action_entry(servers: &[Server], raw: &Record) -> Result<Entry, Refusal>
     requires { (raw.now.zeros ≡ 0) × (raw.now.kind ≡ 2) }
     ensures answer { Checked servers.now raw.now result }
@@ -65,18 +67,19 @@ fn action_entry(servers: &[Server], raw: &Record) -> Result<Entry, Refusal>
     if raw.number == 0 {
         return Err(Refusal::RecordForm);
     }
-    let Some(server) = servers.last() else {
-        return Err(Refusal::ActionBeforeServer);
+    let server = servers.last().ok_or(Refusal::ActionBeforeServer)?;
+    let task = Task {
+        load: raw.first,
+        limit: raw.second,
+        period: raw.third,
     };
-    check_action(raw.first, raw.second, raw.third)?;
-    if find(server.actions.as_slice(), raw.number).is_some() {
+    task.check()?;
+    if has(server.actions.as_slice(), raw.number) {
         return Err(Refusal::NumberTwice);
     }
     Ok(Entry::NewAction(Action {
         number: raw.number,
-        load: raw.first,
-        limit: raw.second,
-        period: raw.third,
+        task,
     }))
 }
 
@@ -98,6 +101,7 @@ pub fn add_server(
 }
 
 // An action at the end of the last server's.
+#[tactic(auto, using(crate::proofs::Lasts::action_added))]
 pub fn add_action(servers: &mut Vec<Server>, action: Action) -> Result<(), AllocError>
     requires { 0 < vec_len servers.old }
     ensures after { OnOk result (ActionAdded action servers.old.items servers.new.items) }

@@ -4,15 +4,13 @@ ghost use Rattle.std.specs.Prelude.{◌≡◌};
 
 use limits::{Fault, Layer, Refusal};
 
-// The fault of a plan at a record: 7 to 9 are of its bytes, the others of its values.
+// The fault of a plan at a record: of its bytes, or of its values.
 pub fn plan_fault(refusal: Refusal, place: usize) -> Fault
     ensures answer { result ≡ plan_fault_of refusal place }
 {
-    let number = refusal.number();
-    let layer = if number >= 7 && number <= 9 {
-        Layer::RecordBytes
-    } else {
-        Layer::PlanValues
+    let layer = match refusal {
+        Refusal::PlanSize | Refusal::RecordForm | Refusal::ActionBeforeServer => Layer::RecordBytes,
+        _ => Layer::PlanValues,
     };
     Fault {
         layer,

@@ -3,13 +3,14 @@
 
 mod entry;
 mod fault;
+mod kind;
 mod listing;
 mod numbered;
 mod plan;
 mod record;
 mod server;
 
-pub use plan::Plan;
+pub use plan::{MOST_PLAN_BYTES, Plan};
 pub use server::{Action, Server};
 
 #[cfg(test)]

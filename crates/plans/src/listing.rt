@@ -1,41 +1,52 @@
 // A plan in words, a line a record.
-ghost use Rattle.plans.specs.Listing.{action_line_of, head_line, server_line_of, server_lines};
+ghost use Rattle.plans.specs.Listing.{action_text, server_lines};
 ghost use Rattle.plans.specs.Listing.{listing as listingText};
 ghost use Rattle.plans.specs.Plans.{plan_records};
 ghost use Rattle.plans.specs.Reads.{servers_of};
-ghost use Rattle.std.specs.Prelude.{◌≡◌, ◌++◌, length, IfOk, string_bytes, OnOk};
+ghost use Rattle.std.specs.Prelude.{◌≡◌, length, IfOk, string_bytes, Some};
 
 use crate::plan::Plan;
 use crate::server::{Action, Server};
 use std::alloc::{AllocError, Global};
+use std::fmt;
 
-fn action_line(heap: Global, action: &Action) -> Result<String, AllocError>
-    ensures answer { IfOk result (λ text. string_bytes text ≡ action_line_of action.now) }
-{
-    format!(in heap;
-        "action {} load {} limit {} period {}\n",
-        action.number, action.load, action.limit, action.period
-    )
-}
+impl fmt::Display for Action {
+    ghost output = { λ a. Some (action_text a) };
 
-fn server_line(heap: Global, server: &Server) -> Result<String, AllocError>
-    ensures answer { IfOk result (λ text. string_bytes text ≡ server_line_of server.now) }
-{
-    format!(in heap; "server {} cap {}\n", server.number, server.cap)
+    fn fmt<W: fmt::Write>(&self, f: &mut fmt::Formatter<W>) -> fmt::Result {
+        let task = self.task;
+        write!(
+            f,
+            "action {} load {} limit {} period {}",
+            self.number, task.load, task.limit, task.period
+        )
+    }
 }
 
 // The line of a server, and one for each of its actions.
-fn list_server(heap: Global, out: &mut String, server: &Server) -> Result<(), AllocError>
-    ensures after { OnOk result (string_bytes out.new ≡ string_bytes out.old ++ server_lines server.now) }
-{
-    let line = server_line(heap, server)?;
-    out.push_str(line.as_str())?;
-    let actions = server.actions.as_slice();
-    for action in actions {
-        let text = action_line(heap, action)?;
-        out.push_str(text.as_str())?;
+impl fmt::Display for Server {
+    ghost output = { λ s. Some (server_lines s) };
+
+    fn fmt<W: fmt::Write>(&self, f: &mut fmt::Formatter<W>) -> fmt::Result {
+        writeln!(f, "server {} cap {}", self.number, self.cap)?;
+        for action in &self.actions {
+            writeln!(f, "{action}")?;
+        }
+        Ok(())
     }
-    Ok(())
+}
+
+// The line of the head, and those of each server.
+impl fmt::Display for Plan {
+    ghost output = { λ p. Some (listingText (servers_of p)) };
+
+    fn fmt<W: fmt::Write>(&self, f: &mut fmt::Formatter<W>) -> fmt::Result {
+        writeln!(f, "plan of {} records", self.records())?;
+        for server in self.servers() {
+            write!(f, "{server}")?;
+        }
+        Ok(())
+    }
 }
 
 impl Plan {
@@ -43,23 +54,18 @@ impl Plan {
     pub fn records(&self) -> usize
         ensures answer { result ≡ length (plan_records (servers_of self.now)) }
     {
-        let servers = self.servers();
-        let mut count = 1;
-        for server in servers {
-            count += 1 + server.actions.len();
-        }
-        count
+        let servers: usize = self
+            .servers()
+            .iter()
+            .map(|server| 1 + server.actions.len())
+            .sum();
+        1 + servers
     }
 
     // The plan in words.
     pub fn listing(&self, heap: Global) -> Result<String, AllocError>
         ensures answer { IfOk result (λ text. string_bytes text ≡ listingText (servers_of self.now)) }
     {
-        let servers = self.servers();
-        let mut out = format!(in heap; "plan of {} records\n", self.records())?;
-        for server in servers {
-            list_server(heap, &mut out, server)?;
-        }
-        Ok(out)
+        self.to_string(heap)
     }
 }

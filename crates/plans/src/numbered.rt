@@ -1,6 +1,6 @@
 // Things that are known by a number.
 ghost use Rattle.std.specs.Prelude.{◌≡◌, ℕ};
-ghost use Rattle.plans.specs.Numbers.{numbered};
+ghost use Rattle.plans.specs.Numbers.{has as hasNumber, numbered};
 ghost use Rattle.std.specs.Option.{option_map};
 
 pub trait Numbered {
@@ -14,10 +14,12 @@ pub trait Numbered {
 pub fn find<T: Numbered>(items: &[T], number: u8) -> Option<&T>
     ensures answer { option_map (λ x. x.now) result ≡ numbered T.Numbered.numberOf number items.now }
 {
-    for item in items {
-        if item.number() == number {
-            return Some(item);
-        }
-    }
-    None
+    items.iter().find(|item| item.number() == number)
+}
+
+// Whether one of them has that number.
+pub fn has<T: Numbered>(items: &[T], number: u8) -> bool
+    ensures answer { result ≡ hasNumber T.Numbered.numberOf number items.now }
+{
+    items.iter().any(|item| item.number() == number)
 }

@@ -6,6 +6,8 @@ use crate::server::Server;
 
 mod methods;
 
+pub use methods::MOST_PLAN_BYTES;
+
 // The servers in plan order. Every value is in range, no server number stands twice and no action number twice in one
 // server, and the plan has at most 1,024 records.
 #[derive(Drop)]

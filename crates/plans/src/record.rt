@@ -16,7 +16,8 @@ pub struct Record {
     pub third: u32,
 }
 
-// The little-endian number in the four bytes from `at` on.
+// The little-endian number in the four bytes from `at` on. Each byte is named: a slice of them would have to become an
+// array first, by a conversion that can fail.
 pub fn word_at(bytes: &[u8], at: usize) -> u32
     requires { at + 4 ≤ length bytes.now }
     ensures answer { result ≡ word bytes.now at }

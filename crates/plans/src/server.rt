@@ -1,13 +1,12 @@
 // What a plan holds: servers, and the actions of each.
 use crate::numbered::Numbered;
+use limits::Task;
 
-// One reply that a server owes, in ticks.
+// One reply that a server owes.
 #[derive(Clone, Copy, PartialEq, Eq, Debug)]
 pub struct Action {
     pub number: u8,
-    pub load: u32,
-    pub limit: u32,
-    pub period: u32,
+    pub task: Task,
 }
 
 // One peer: its cap is its part of the processor. Its actions stand in plan order.

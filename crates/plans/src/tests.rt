@@ -18,10 +18,7 @@ const SERVER_TWICE: [u8; 48] = [
 ];
 
 fn plan_of(rt: &HostRuntime, bytes: &[u8]) -> Result<Plan, Fail> {
-    match Plan::read(rt.alloc(), bytes) {
-        Ok(plan) => Ok(plan),
-        Err(_) => Err(Fail::new("not read")),
-    }
+    Plan::read(rt.alloc(), bytes).map_err(|_| Fail::new("not read"))
 }
 
 #[test]
@@ -29,7 +26,7 @@ fn looks_up(rt: HostRuntime) -> Result<(), Fail> {
     let plan = plan_of(&rt, &TWO_SERVERS)?;
     assert_eq!(rt; plan.servers().len(), 2);
     assert_eq!(rt; plan.server(1).ok_or("no server 1")?.cap, 500_000);
-    assert_eq!(rt; plan.action(1, 7).ok_or("no action 7")?.period, 4);
+    assert_eq!(rt; plan.action(1, 7).ok_or("no action 7")?.task.period, 4);
     assert!(rt; plan.action(2, 7).is_none());
     assert!(rt; plan.server(3).is_none());
     Ok(())
@@ -52,5 +49,17 @@ fn fault_leaves_plan(rt: HostRuntime) -> Result<(), Fail> {
         _ => return Err(Fail::new("too few bytes were read")),
     }
     assert_eq!(rt; plan.records(), 4);
+    Ok(())
+}
+
+#[test]
+fn lists(rt: HostRuntime) -> Result<(), Fail> {
+    let plan = plan_of(&rt, &TWO_SERVERS)?;
+    let text = plan.listing(rt.alloc())?;
+    let head = "plan of 4 records\n";
+    let first = "server 1 cap 500000\naction 7 load 3 limit 2 period 4\n";
+    let second = "server 2 cap 1\n";
+    let wanted = format!(in rt.alloc(); "{head}{first}{second}")?;
+    assert_eq!(rt; text.as_str(), wanted.as_str());
     Ok(())
 }

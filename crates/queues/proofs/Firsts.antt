@@ -3,13 +3,20 @@ use Rattle.std.proofs.Common.{◌≡◌, ℕ, ◌<◌, true, List, [], ◌∷◌
 use Rattle.heaps.specs.Answers as heap
 use Rattle.heaps.specs.Held.{Leads, held, room}
 use Rattle.heaps.specs.declared.heap.Heap.{Heap}
+use Rattle.std.specs.declared.cmp.Ord as ord
+use Rattle.std.specs.declared.cmp.PartialEq as eq
+use Rattle.std.specs.declared.cmp.PartialOrd as partial_ord
 use Rattle.limits.specs.declared.refusal.Refusal.{Refusal}
-use Rattle.queues.proofs.Sought.{has_some}
+use Rattle.queues.proofs.Checked.{passed}
+use Rattle.queues.proofs.Sought.{has_some, room_left}
+use Rattle.queues.specs.Checks.{put_check}
 use Rattle.queues.specs.Dues.{Before, First}
 use Rattle.queues.specs.Entries.{entry_order}
 use Rattle.queues.specs.Finds.{some_has}
 use Rattle.queues.specs.Lists.{Distinct, sought}
+use Rattle.queues.specs.Makes.{heap_due}
 use Rattle.queues.specs.declared.entry.Entry.{Entry}
+use Rattle.queues.specs.declared.heap_queue.HeapQueue.{HeapQueue}
 use Rattle.std.proofs.ByRecursion.{all-has}
 use Rattle.std.proofs.lemmas.Bool.Decides.{nat_tests}
 use Rattle.std.specs.List.Sorted.{IsPermutation}
@@ -31,11 +38,18 @@ pub first_none : (xs : List Entry) → xs ≡ [] → First (sought xs) None
 first_none xs e = λ k. ap (λ (l : List Entry). sought l k) e
 
 -- what a heap gives as its least
-pub first_least : (h : Heap Entry) (r : Option Entry) → Distinct (held h) → heap.Least entry_order h r → First (sought (held h)) r
-first_least h None d l = first_none (held h) l
-first_least h (Some x) d l = first_some (held h) x d l.1 l.0
+pub first_least : (q : HeapQueue) (r : Option Entry) → Distinct (held q.heap) → heap.Least q.heap r → First (heap_due q) r
+first_least q None d l = first_none (held q.heap) l
+first_least q (Some x) d l = first_some (held q.heap) x d l.1 l.0
 
 -- a heap that is not full takes the entry
-pub put_some : (x : Entry) (old new : Heap Entry) (r : Result (Unit {0}) Refusal) → heap.Put x old new r → length (held old) < room old → IsPermutation (x ∷ held old) (held new)
+put_some : {o : ord.Ghosts Entry} {e : eq.Ghosts Entry} {p : partial_ord.Ghosts Entry} (x : Entry) (old new : Heap Entry o e p) (r : Result (Unit {0}) Refusal) → heap.Put x old new r → length (held old) < room old → IsPermutation (x ∷ held old) (held new)
 put_some x old new (Ok u) p l = p.1
 put_some x old new (Err e) p l = absurd (omega (arith, p.1))
+
+-- as a heap queue's is, where the entry passes the checks
+pub entered : (q : HeapQueue) (x : Entry) (new : _) (r : Result (Unit {0}) Refusal) → put_check (heap_due q) x.server x.instant ≡ None → heap.Put x q.heap new r → IsPermutation (x ∷ held q.heap) (held new)
+entered q x new r checked p =
+    let ok = passed (heap_due q) x.server x.instant checked in
+    let few = room_left (held q.heap) x.server q.apart q.bounded ok.0 ok.1 ok.3 in
+    put_some x q.heap new r p (omega (arith, q.long))

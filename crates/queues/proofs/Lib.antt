@@ -2,7 +2,8 @@ pub mod Known
 pub mod Checked
 pub mod Ranks
 pub mod Counts
-pub mod Founds
 pub mod Sought
 pub mod Firsts
+pub mod Standing
 pub mod Worded
+pub mod Same

@@ -1,6 +1,8 @@
 -- Words of servers, and servers that have no entry.
-use Rattle.std.proofs.Common.{◌≡◌, ℕ, ◌+◌, ◌-◌, ◌≤◌, false, eqb, is_some, Some, None, Option, sym, refl, ap, ◌∙◌, inl, inr, arith}
+use Rattle.std.proofs.Common.{◌≡◌, ℕ, zero, suc, ◌+◌, ◌-◌, ◌≤◌, false, eqb, is_some, Some, None, Option, sym, refl, ap, ◌∙◌, inl, inr, arith}
+use Rattle.bits.specs.Servers.{has}
 use Rattle.bits.specs.Words.{bit}
+use Rattle.bits.specs.declared.server_set.ServerSet.{ServerSet}
 use Rattle.limits.specs.Ranges.{servers}
 use Rattle.queues.proofs.Known.{known}
 use Rattle.queues.specs.Dues.{Due, Put, Taken, Within}
@@ -28,12 +30,6 @@ pub weight_some : (o : Option ℕ) → eqb (weight o) 1 ≡ is_some o
 weight_some None = refl
 weight_some (Some t) = refl
 
--- a server has an entry if the word has its bit
-pub worded_some : (f : Due) (h s : ℕ) → Worded f h → 1 ≤ s → eqb (bit h (s - 1)) 1 ≡ is_some (f s)
-worded_some f h s w lo =
-    let back : s - 1 + 1 ≡ s = omega arith in
-    ap (λ b. eqb b 1) (w (s - 1) ∙ ap (λ k. weight (f k)) back) ∙ weight_some (f s)
-
 -- only servers have entries
 pub none_out : (f : Due) (s : ℕ) → Within f → (1 ≤ s → s ≤ servers → ⊥) → f s ≡ None
 none_out f s h out = elim (known (f s)) [
@@ -44,3 +40,8 @@ none_out f s h out = elim (known (f s)) [
 -- 0 is no server
 pub none_at_zero : (f : Due) (s : ℕ) → Within f → s ≤ 0 → is_some (f s) ≡ false
 none_at_zero f s h z = ap is_some (none_out f s h (λ lo hi. omega arith))
+
+-- a set holds the servers that have an entry
+pub worded_has : (f : Due) (set : ServerSet) (s : ℕ) → Within f → Worded f set.word → has set s ≡ is_some (f s)
+worded_has f set zero h w = sym (none_at_zero f 0 h (omega arith))
+worded_has f set (suc i) h w = let at : i + 1 ≡ suc i = omega arith in ap (λ b. eqb b 1) (w i ∙ ap (λ k. weight (f k)) at) ∙ weight_some (f (suc i))

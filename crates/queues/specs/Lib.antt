@@ -3,7 +3,7 @@ pub mod Dues
 pub mod Checks
 pub mod Sizes
 pub mod Words
-pub mod Rows
 pub mod Lists
+pub mod Rows
 pub mod Finds
 pub mod Makes

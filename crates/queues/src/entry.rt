@@ -1,27 +1,13 @@
-// The entries of a queue and their order.
-ghost use Rattle.queues.specs.Entries.{entry_order};
+// The entries of a queue.
 ghost use Rattle.std.proofs.Common.{rules};
 
-use heaps::{Ordered, Strict};
+use heaps::Strict;
 
-// A server at an instant.
-#[derive(Clone, Copy, Debug)]
+// A server at an instant: by instant, and at one instant by server.
+#[derive(Clone, Copy, Debug, Default, PartialEq, Eq, PartialOrd, Ord)]
 pub struct Entry {
     pub instant: u64,
     pub server: u8,
-}
-
-// By instant, and at one instant by server.
-impl Ordered for Entry {
-    ghost at_or_before = { entry_order };
-
-    ghost total = { Prim.search rules };
-
-    ghost carries = { Prim.search rules };
-
-    fn at_or_before(&self, other: &Entry) -> bool {
-        self.instant < other.instant || self.instant == other.instant && self.server <= other.server
-    }
 }
 
 impl Strict for Entry {

@@ -4,7 +4,6 @@
 mod checks;
 mod entry;
 mod heap_queue;
-mod places;
 mod queue;
 mod row;
 

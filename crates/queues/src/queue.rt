@@ -7,41 +7,32 @@ ghost use Rattle.std.specs.Result.{result_err};
 use crate::entry::Entry;
 use limits::Refusal;
 
-// Entries in time order, at most one for each server. What ties a layer to the queue below it cannot be in a generic
-// type today, so each call asks for it (`sound`) and keeps it, and the making of a queue gives it.
+// Entries in time order, at most one for each server.
 pub trait Queue {
-    // The queues that the calls keep to.
-    ghost sound: { Self → Type 0 };
-
     // The instant of each server's entry.
     ghost due: { Self → ℕ → Option ℕ };
 
     // Only servers have entries, and none past the horizon.
-    ghost within: { (q : Self) → sound q → Within (due q) };
+    ghost within: { (q : Self) → Within (due q) };
 
-    // Adds the server's entry. The first check that fails gives the refusal, and then nothing changes.
+    // Adds the server's entry. The first check that fails gives the refusal, and then nothing changes. The two numbers come
+    // one by one: they may be anything, and an entry made of them would first be taken apart by the checks.
     fn put(&mut self, server: u8, instant: u64) -> Result<(), Refusal>
-        requires { sound self.old }
         ensures answer { result_err result ≡ put_check (due self.old) server instant }
         ensures after { is_ok result ≡ true → Put (due self.old) (due self.new) server instant }
-        ensures stays { is_ok result ≡ false → self.new ≡ self.old }
-        ensures keeps { sound self.new };
+        ensures stays { is_ok result ≡ false → self.new ≡ self.old };
 
     // The first entry, by instant and then by server.
     fn least(&self) -> Option<Entry>
-        requires { sound self.now }
         ensures answer { First (due self.now) result };
 
     // Gives the first entry, and holds it no more.
     fn take(&mut self) -> Option<Entry>
-        requires { sound self.old }
         ensures answer { First (due self.old) result }
         ensures after { Taken (due self.old) (due self.new) result }
-        ensures stays { is_some result ≡ false → self.new ≡ self.old }
-        ensures keeps { sound self.new };
+        ensures stays { is_some result ≡ false → self.new ≡ self.old };
 
     // Whether the server has an entry.
     fn holds(&self, server: u8) -> bool
-        requires { sound self.now }
         ensures answer { result ≡ is_some (due self.now server) };
 }

@@ -1,22 +1,24 @@
 // An ordered row.
-ghost use Rattle.std.specs.Prelude.{◌≤◌};
-ghost use Rattle.queues.specs.Rows.{Apart, Bounded, Falls, found};
+ghost use Rattle.queues.specs.Entries.{Proper};
+ghost use Rattle.queues.specs.Lists.{Distinct, sought};
+ghost use Rattle.queues.specs.Rows.{Falls};
 ghost use Rattle.queues.specs.Words.{Worded};
+ghost use Rattle.std.proofs.Props.{props};
+ghost use Rattle.std.specs.List.{AllByRecursion};
 
 use crate::entry::Entry;
+use arrayvec::ArrayVec;
+use bits::ServerSet;
 
 mod methods;
 
-// The first `len` places hold the entries, each before those left of it, so that the first entry stands last.
-// `held` has bit s - 1 for each server s that has an entry.
+// Each entry comes before those left of it, so that the first entry stands last. `held` has the servers that have one.
 #[derive(Drop)]
 pub struct Row {
-    places: [Entry; 64],
-    len: usize,
-    held: u64,
-    ghost fits: { len ≤ 64 },
-    ghost falls: { Falls places len },
-    ghost apart: { Apart places len },
-    ghost bounded: { Bounded places len },
-    ghost word: { Worded (found places len) held },
+    entries: ArrayVec<Entry, 64>,
+    held: ServerSet,
+    ghost falls: { Falls entries.items },
+    ghost apart: { Distinct entries.items },
+    ghost bounded: { AllByRecursion Proper entries.items } by { Prim.hlevel props },
+    ghost word: { Worded (sought entries.items) held.word },
 }

@@ -3,7 +3,8 @@ use Rattle.std.proofs.Common.{◌≡◌, ℕ, ◌+◌, ◌-◌, ◌*◌, ◌/◌
 use Rattle.release.proofs.Ceils.{ceil_below, ceil_from, ceil_least}
 use Rattle.release.specs.Actions.{Action, Completes, Meaning, boundary, ceil, first_amount_of, first_boundary_of, forecast}
 use Rattle.release.specs.Rules.{WithinShare}
-use Rattle.std.proofs.lemmas.Bool.{cases_eq, cases_lt, cases_order, cond_both, cond-false, cond-true, le-ltb, lt-ltb}
+use Rattle.std.proofs.lemmas.Bool.Decides.{nat_tests}
+use Rattle.std.proofs.lemmas.Bool.{cases_lt, cond_both}
 use native.Mathlib.Nat.{le_of_mul-le-mul_left, mul-div-le}
 
 module _ (k : Action) (h : 1 ≤ k.period) where
@@ -17,11 +18,11 @@ module _ (k : Action) (h : 1 ≤ k.period) where
 
 pub first_none : (rule : Meaning) (k : Action) → first_boundary_of k ≤ k.arrival → first_amount_of rule k ≡ 0
 unfolding first_amount_of
-first_none rule k h = cond-false _ _ _ (le-ltb k.arrival (first_boundary_of k) h)
+first_none rule k h = grind (arith, nat_tests)
 
 pub first_some : (rule : Meaning) (k : Action) → k.arrival < first_boundary_of k → first_amount_of rule k ≡ rule k.limit k.period k.arrival (first_boundary_of k)
 unfolding first_amount_of
-first_some rule k h = cond-true _ _ _ (lt-ltb k.arrival (first_boundary_of k) h)
+first_some rule k h = grind (arith, nat_tests)
 
 -- the first amount keeps the law
 pub first_law : (rule : Meaning) → WithinShare rule → (k : Action) → first_amount_of rule k * k.period ≤ k.limit * (first_boundary_of k - k.arrival)
@@ -37,42 +38,25 @@ first_law rule law k =
 
 -- boundaries lie in order
 pub boundary_order : (k : Action) (i j : ℕ) → i < j → boundary k i + k.period ≤ boundary k j
-boundary_order k i j h = omega (arith, mul-le-mul_right k.period h)
+boundary_order k i j h = grind arith
 
 pub boundary_le : (k : Action) (i j : ℕ) → i ≤ j → boundary k i ≤ boundary k j
-boundary_le k i j h = omega (arith, mul-le-mul_right k.period h)
+boundary_le k i j h = grind arith
 
 -- a boundary past the one before j, and not past j, is j
 pub boundary_is : (k : Action) (i j : ℕ) → boundary k i ≤ boundary k j → boundary k j < boundary k i + k.period → i ≡ j
-boundary_is k i j h l =
-    ⊎_elim (λ (e : i ≡ j). e)
-    (⊎_elim
-    (λ (o : i < j). absurd (omega (arith, boundary_order k i j o)))
-    (λ (o : j < i). absurd (omega (arith, boundary_order k j i o))))
-    (cases_order i j)
+boundary_is k i j h l = grind (arith, boundary_order)
 
 -- only one boundary completes an action
 pub completes_once : (rule : Meaning) (k : Action) (i j : ℕ) → Completes rule k i → Completes rule k j → i ≡ j
-completes_once rule k i j h l =
-    ⊎_elim (λ (e : i ≡ j). e)
-    (⊎_elim
-    (λ (o : i < j). absurd (omega (arith, l.1 i o, h.0)))
-    (λ (o : j < i). absurd (omega (arith, h.1 j o, l.0))))
-    (cases_order i j)
+completes_once rule k i j h l = grind (arith, h.1 j, l.1 i)
 
 -- how many periods after its first boundary an action ends
 abbrev pub turns : Meaning → Action → ℕ
 turns rule k = ceil (k.load - first_amount_of rule k) k.limit
 
 pub turns_complete : (rule : Meaning) (k : Action) → 1 ≤ k.limit → Completes rule k (turns rule k)
-turns_complete rule k h =
-    let a = first_amount_of rule k in (
-      omega (arith, ceil_from (k.load - a) k.limit h),
-      λ i l. ⊎_elim
-          (λ (o : a + k.limit * i < k.load). omega arith)
-          (λ (o : k.load ≤ a + k.limit * i). absurd (omega (arith, ceil_least (k.load - a) k.limit i h (omega arith))))
-          (cases_lt (a + k.limit * i) k.load),
-    )
+turns_complete rule k h = (grind (arith, ceil_from), λ i l. grind (arith, ceil_least))
 
 -- the forecast is the boundary that completes the action
 pub forecast_is : (rule : Meaning) (k : Action) (j : ℕ) → 1 ≤ k.limit → Completes rule k j → boundary k j ≡ forecast rule k
@@ -87,18 +71,9 @@ forecast_from rule k = omega arith
 pub forecast_after : (rule : Meaning) (k : Action) → 1 ≤ k.load → 1 ≤ k.limit → 1 ≤ k.period → k.arrival < forecast rule k
 unfolding forecast
 forecast_after rule k some h p =
-    let n = turns rule k in
     let f = first_from k p in
-    ⊎_elim
-    (λ (o : k.arrival < first_boundary_of k). omega arith)
-    (λ (o : first_boundary_of k ≤ k.arrival).
-    let z = first_none rule k o in
     let c = ceil_from (k.load - first_amount_of rule k) k.limit h in
-    ⊎_elim
-    (λ (e : n ≡ 0). absurd (omega (arith, ap (λ x. k.limit * x) e)))
-    (λ (e : n ≡ 0 → ⊥). let one : 1 ≤ n = omega arith in omega (arith, mul-le-mul_right k.period one))
-    (cases_eq n 0))
-    (cases_lt k.arrival (first_boundary_of k))
+    grind (arith, first_none rule k)
 
 -- the whole limits in the load, and the periods that they take
 lower : (d m r p w x : ℕ) → 1 ≤ d → d * (m + r) ≤ x + d * m → x * p ≤ d * w → r * p ≤ w
@@ -131,8 +106,10 @@ module _ (rule : Meaning) (k : Action) (h : 1 ≤ k.limit) (p : 1 ≤ k.period) 
   no_more =
       let n = ceil k.load k.limit in
       let g = first_below k p in
-      let below : j ≤ n = ⊎_elim (λ (o : n < j). absurd (omega (arith, c.1 n o, ceil_from k.load k.limit h))) (λ (o : j ≤ n). o) (cases_lt n j) in
-      omega (arith, mul-le-mul_right k.period below, mul_comm n k.period)
+      let enough = ceil_from k.load k.limit h in
+      let early = c.1 n in
+      let below : j ≤ n = grind arith in
+      grind arith
 
 -- an amount within its limit's part of the time fits in a cap that the limit keeps to
 pub fit : (a p l t c u : ℕ) → 1 ≤ p → a * p ≤ l * t → l * u ≤ c * p → u * a ≤ c * t

@@ -1,5 +1,5 @@
 -- Worked figures: one table, and the test that each of its rows is right.
-use Rattle.std.specs.Prelude.{ℕ, Bool, true, ◌&&◌, List, [], ◌∷◌, ◌==◌}
+use Rattle.std.specs.Prelude.{ℕ, Bool, List, [], ◌∷◌, ◌==◌}
 use Rattle.release.specs.Actions.{Meaning, action, forecast}
 use Rattle.release.specs.Rules.{early, late}
 
@@ -21,7 +21,3 @@ figures =
 
 abbrev pub right : Figure → Bool
 right (ends arrival load limit period rule end) = forecast rule (action arrival load limit period) == end
-
-abbrev pub all_right : List Figure → Bool
-all_right [] = true
-all_right (f ∷ fs) = right f && all_right fs

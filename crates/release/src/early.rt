@@ -15,9 +15,10 @@ impl ReleaseRule for Early {
     ghost outside = { Prim.search rules };
 
     fn first_amount(&self, limit: u32, period: u32, arrival: u64, boundary: u64) -> u32 {
-        if !in_range(limit, period, arrival, boundary) {
-            return 0;
+        if in_range(limit, period, arrival, boundary) {
+            (limit as u64 * (boundary - arrival) / period as u64) as u32
+        } else {
+            0
         }
-        (limit as u64 * (boundary - arrival) / period as u64) as u32
     }
 }

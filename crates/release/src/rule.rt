@@ -6,7 +6,7 @@ use limits::MOST_TICKS;
 
 // A rule says how much of the first, partial period an action may already use.
 pub trait ReleaseRule {
-    // The first amount, from limit, period, arrival and first boundary.
+    // The first amount, from limit, period, arrival and first boundary: not from a whole task, since a rule sees no load.
     ghost amount: { Self → ℕ → ℕ → ℕ → ℕ → ℕ };
 
     fn first_amount(&self, limit: u32, period: u32, arrival: u64, boundary: u64) -> u32
@@ -23,8 +23,7 @@ pub trait ReleaseRule {
 pub fn in_range(limit: u32, period: u32, arrival: u64, boundary: u64) -> bool
     ensures answer { result ≡ in_range limit period arrival boundary }
 {
-    1 <= limit
-        && limit <= period
+    (1..=period).contains(&limit)
         && period <= MOST_TICKS
         && arrival <= boundary
         && boundary - arrival < period as u64

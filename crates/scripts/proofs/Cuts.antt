@@ -1,5 +1,5 @@
 -- Lines one after another: a text is cut into lines in one way.
-use Rattle.std.proofs.Common.{◌≡◌, ℕ, ◌+◌, ◌^◌, ◌<◌, ◌≤◌, true, leb, ◌⊎◌, List, [], ◌∷◌, ◌++◌, length, get_or, drop, decimal, sym, refl, ap, ◌∙◌, subst, inl, ⊎_elim, arith}
+use Rattle.std.proofs.Common.{◌≡◌, ℕ, ◌+◌, ◌^◌, ◌<◌, ◌≤◌, true, leb, ◌⊎◌, List, [], ◌∷◌, ◌++◌, length, get_or, drop, decimal, sym, refl, ap, ◌∙◌, subst, ⊎_elim, arith}
 use Rattle.limits.specs.Ranges.{horizon}
 use Rattle.limits.specs.declared.fault.Fault.{Fault}
 use Rattle.limits.specs.declared.fault.ReadError.TheVariants.{Fault as AtFault}
@@ -20,12 +20,12 @@ byte n e = let h = leb-true n 255 e in omega arith
 
 -- a text begins with one command
 same_command : (j k : Command) (r s : List ℕ) → valid_command j ≡ true → valid_command k ≡ true → command_text j ++ 10 ∷ r ≡ command_text k ++ 10 ∷ s → (j ≡ k) × (r ≡ s)
-same_command (Admit x) (Admit y) r s v w e = let p = same_number 10 x y r s (inl (omega arith)) (byte x v) (byte y w) (ap (drop 2) e) in (ap (λ n. Admit n) p.0, p.1)
+same_command (Admit x) (Admit y) r s v w e = let p = same_number 10 x y r s (omega arith) (byte x v) (byte y w) (ap (drop 2) e) in (ap (λ n. Admit n) p.0, p.1)
 same_command (Admit x) (Leave y) r s v w e = absurd (omega (arith, ap (λ l. get_or l 0 0) e))
 same_command (Admit x) (Start y b) r s v w e = absurd (omega (arith, ap (λ l. get_or l 0 0) e))
 same_command (Admit x) Wait r s v w e = absurd (omega (arith, ap (λ l. get_or l 0 0) e))
 same_command (Leave x) (Admit y) r s v w e = absurd (omega (arith, ap (λ l. get_or l 0 0) e))
-same_command (Leave x) (Leave y) r s v w e = let p = same_number 10 x y r s (inl (omega arith)) (byte x v) (byte y w) (ap (drop 2) e) in (ap (λ n. Leave n) p.0, p.1)
+same_command (Leave x) (Leave y) r s v w e = let p = same_number 10 x y r s (omega arith) (byte x v) (byte y w) (ap (drop 2) e) in (ap (λ n. Leave n) p.0, p.1)
 same_command (Leave x) (Start y b) r s v w e = absurd (omega (arith, ap (λ l. get_or l 0 0) e))
 same_command (Leave x) Wait r s v w e = absurd (omega (arith, ap (λ l. get_or l 0 0) e))
 same_command (Start x a) (Admit y) r s v w e = absurd (omega (arith, ap (λ l. get_or l 0 0) e))
@@ -33,8 +33,8 @@ same_command (Start x a) (Leave y) r s v w e = absurd (omega (arith, ap (λ l. g
 same_command (Start x a) (Start y b) r s v w e =
     let i = and_parts (leb x 255) (leb a 255) v in
     let j = and_parts (leb y 255) (leb b 255) w in
-    let p = same_number 32 x y (decimal a ++ 10 ∷ r) (decimal b ++ 10 ∷ s) (inl (omega arith)) (byte x i.0) (byte y j.0) (ap (drop 2) (sym (start_parts x a r) ∙ e ∙ start_parts y b s)) in
-    let q = same_number 10 a b r s (inl (omega arith)) (byte a i.1) (byte b j.1) p.1 in
+    let p = same_number 32 x y (decimal a ++ 10 ∷ r) (decimal b ++ 10 ∷ s) (omega arith) (byte x i.0) (byte y j.0) (ap (drop 2) (sym (start_parts x a r) ∙ e ∙ start_parts y b s)) in
+    let q = same_number 10 a b r s (omega arith) (byte a i.1) (byte b j.1) p.1 in
     (λ i. Start (p.0 i) (q.0 i), q.1)
 same_command (Start x a) Wait r s v w e = absurd (omega (arith, ap (λ l. get_or l 0 0) e))
 same_command Wait (Admit y) r s v w e = absurd (omega (arith, ap (λ l. get_or l 0 0) e))
@@ -49,7 +49,7 @@ same_line l m r s v w e =
     let j = and_parts (leb m.instant horizon) _ w in
     let hl = leb-true l.instant horizon i.0 in
     let hm = leb-true m.instant horizon j.0 in
-    let p = same_number 32 l.instant m.instant _ _ (inl (omega arith)) (omega arith) (omega arith) (sym (line_parts l r) ∙ e ∙ line_parts m s) in
+    let p = same_number 32 l.instant m.instant _ _ (omega arith) (omega arith) (omega arith) (sym (line_parts l r) ∙ e ∙ line_parts m s) in
     let q = same_command l.command m.command r s i.1 j.1 p.1 in
     (λ k. record { instant = p.0 k; command = q.0 k }, q.1)
 

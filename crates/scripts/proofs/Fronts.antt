@@ -1,5 +1,5 @@
 -- What stands at the front of a text: one line, and one rest.
-use Rattle.std.proofs.Common.{◌≡◌, ℕ, ◌<◌, ◌≤◌, true, leb, List, [], ◌∷◌, ◌++◌, get_or, drop, decimal, sym, ap, ◌∙◌, inl, arith}
+use Rattle.std.proofs.Common.{◌≡◌, ℕ, ◌<◌, ◌≤◌, true, leb, List, [], ◌∷◌, ◌++◌, get_or, drop, decimal, sym, ap, ◌∙◌, arith}
 use Rattle.limits.specs.Ranges.{horizon}
 use Rattle.scripts.proofs.Numbers.{same_number}
 use Rattle.scripts.specs.Lines.{command_text, line_text_of, valid_command, valid_line}
@@ -20,7 +20,7 @@ start_parts s a rest = ap (λ t. 83 ∷ 32 ∷ t) (append_assoc (decimal s) (32 
 
 -- a number up to 255, and what its end is followed by
 same_byte : (end n m : ℕ) (r s : List ℕ) → end < 48 → n ≤ 255 → m ≤ 255 → decimal n ++ end ∷ r ≡ decimal m ++ end ∷ s → (n ≡ m) × (r ≡ s)
-same_byte end n m r s low hn hm e = same_number end n m r s (inl low) (omega arith) (omega arith) e
+same_byte end n m r s low hn hm e = same_number end n m r s low (omega arith) (omega arith) e
 
 -- no start follows: its first number is read, and no second
 pub no_start : (text after : List ℕ) (s : ℕ) → s ≤ 255 → text ≡ 32 ∷ (decimal s ++ 32 ∷ after) → ((n : ℕ) (rest : List ℕ) → n ≤ 255 → after ≡ decimal n ++ 10 ∷ rest → ⊥) → (t a : ℕ) (rest : List ℕ) → t ≤ 255 → a ≤ 255 → text ≡ 32 ∷ (decimal t ++ 32 ∷ (decimal a ++ 10 ∷ rest)) → ⊥
@@ -46,7 +46,7 @@ pub no_command : (text after : List ℕ) (n : ℕ) → n ≤ horizon → text �
 no_command text after n h split none l rest v e =
     let b = and_parts (leb l.instant horizon) _ v in
     let m = leb-true l.instant horizon b.0 in
-    none l.command rest b.1 (same_number 32 n l.instant after (command_text l.command ++ 10 ∷ rest) (inl (omega arith)) (omega arith) (omega arith) (sym split ∙ e ∙ line_parts l rest)).1
+    none l.command rest b.1 (same_number 32 n l.instant after (command_text l.command ++ 10 ∷ rest) (omega arith) (omega arith) (omega arith) (sym split ∙ e ∙ line_parts l rest)).1
 
 pub line_read : (text after rest : List ℕ) (n : ℕ) (k : Command) → n ≤ horizon → text ≡ decimal n ++ 32 ∷ after → valid_command k ≡ true → after ≡ command_text k ++ 10 ∷ rest → (valid_line (record { instant = n; command = k }) ≡ true) × (text ≡ line_text_of (record { instant = n; command = k }) ++ rest)
 line_read text after rest n k h split v e =

@@ -1,6 +1,8 @@
 -- A number at the front of a text, read digit by digit.
 use Rattle.std.proofs.Common.{◌≡◌, ℕ, zero, suc, ◌+◌, ◌-◌, ◌*◌, ◌^◌, ◌<◌, ◌≤◌, List, [], ◌∷◌, ◌++◌, length, get_or, take, drop, decimal, fold, sym, refl, ap, ◌∙◌, subst, ⊎_elim, arith, below_more}
-use Rattle.scripts.specs.Fields.{Ends}
+use Rattle.scripts.specs.Fields.{byte_of}
+use Rattle.scripts.specs.declared.number.End.{End}
+use Rattle.scripts.specs.declared.number.End.TheVariants.{Space, LineFeed}
 use Rattle.std.proofs.lemmas.Fmt.{decimal_digit, decimal_nonempty, decimal-digits_value, digits_decimal, first_decimal, decimal_injective, digits_value-decimal}
 use Rattle.std.proofs.lemmas.List.{drop_at, drop_more, get_or_append_left, get_or_at, get_or-take, length-append, length-take-le, take-append-drop, take-append-le, take_at}
 use Rattle.std.proofs.lemmas.Str.Parse.{IsNumeralModel, numerals_by_fold, tells_by_index}
@@ -34,8 +36,13 @@ folded_append n (d ∷ ds) es = folded_append (step n d) ds es
 front_le : (ds : List ℕ) (i : ℕ) → read (take i ds) ≤ read ds
 front_le ds i = omega (arith, read_on (read (take i ds)) (drop i ds), folded_append 0 (take i ds) (drop i ds), ap read (take-append-drop i ds))
 
-no_digit : (end c : ℕ) → Ends end → c ≡ end → IsInRange 48 57 c → ⊥
-no_digit end c e same d = ⊎_elim (λ l. omega arith) (λ l. omega arith) e
+-- the bytes that end numbers stand below the digits
+pub below_digits : (end : End) → byte_of end < 48
+below_digits Space = omega arith
+below_digits LineFeed = omega arith
+
+no_digit : (end c : ℕ) → end < 48 → c ≡ end → IsInRange 48 57 c → ⊥
+no_digit end c low same d = omega arith
 
 -- the text begins with a number and the byte that ends it
 record Begins (text : List ℕ) (end n m : ℕ) : Type 0 where
@@ -63,7 +70,7 @@ begins text rest end n small e =
     }
 
 -- a text has one number at its front, and one rest
-pub same_number : (end n m : ℕ) (r s : List ℕ) → Ends end → n < 2 ^ 64 → m < 2 ^ 64 → decimal n ++ end ∷ r ≡ decimal m ++ end ∷ s → (n ≡ m) × (r ≡ s)
+pub same_number : (end n m : ℕ) (r s : List ℕ) → end < 48 → n < 2 ^ 64 → m < 2 ^ 64 → decimal n ++ end ∷ r ≡ decimal m ++ end ∷ s → (n ≡ m) × (r ≡ s)
 same_number end n m r s ends hn hm e =
     let text = decimal n ++ end ∷ r in
     let b = begins text r end n hn refl in
@@ -82,7 +89,7 @@ pub record Reading (text : List ℕ) (most i value : ℕ) : Type 0 where
   pub small : value ≤ most
   pub lead : 1 < i → get_or text 0 0 ≡ 48 → ⊥
 
-module _ (text : List ℕ) (end most i value : ℕ) (ends : Ends end) (bound : most ≤ 10 ^ 18) (r : Reading text most i value) where
+module _ (text : List ℕ) (end most i value : ℕ) (ends : end < 48) (bound : most ≤ 10 ^ 18) (r : Reading text most i value) where
   pub found : i < length text → 0 < i → get_or text i 0 ≡ end → (value ≤ most) × (text ≡ decimal value ++ end ∷ drop (i + 1) text)
   found l some at =
       let long : length (take i text) ≡ i = length-take-le i text (omega arith) in

@@ -1,13 +1,16 @@
 -- The parts of a script line, each exact both ways: a part is read from the front of a text where the text begins with it, and nothing is read where it begins with none.
-use Rattle.std.specs.Prelude.{◌≡◌, ℕ, ◌<◌, ◌≤◌, true, ◌⊎◌, List, ◌∷◌, ◌++◌, decimal, Option, MatchOption, ◌≢◌}
+use Rattle.std.specs.Prelude.{◌≡◌, ℕ, ◌≤◌, true, List, ◌∷◌, ◌++◌, decimal, Option, MatchOption, ◌≢◌}
 use Rattle.scripts.specs.Lines.{command_text, line_text_of, valid_command, valid_line}
 use Rattle.scripts.specs.declared.line.Command.{Command}
 use Rattle.scripts.specs.declared.line.Line.{Line}
+use Rattle.scripts.specs.declared.number.End.{End}
+use Rattle.scripts.specs.declared.number.End.TheVariants.{Space, LineFeed}
 use Rattle.std.specs.Borrow.{Bor}
 
--- a byte that can end a number: no digit
-abbrev pub Ends : ℕ → Type 0
-Ends end = (end < 48) ⊎ (57 < end)
+-- the bytes that end numbers
+abbrev pub byte_of : End → ℕ
+byte_of Space = 32
+byte_of LineFeed = 10
 
 -- a number up to most, ended by the byte end
 abbrev pub NumberBefore : List ℕ → ℕ → ℕ → Option (ℕ × Bor (List ℕ)) → Type 0

@@ -1,8 +1,7 @@
 // The lines of a script that are still to come, in time order.
-ghost use Rattle.std.specs.Prelude.{ℕ, ◌<◌, length, slice_index_or};
-ghost use Rattle.heaps.specs.Held.{InHeap, Within};
-ghost use Rattle.scripts.specs.Dues.{due_order};
-ghost use Rattle.scripts.specs.declared.due.Due.{Due as Entry};
+ghost use Rattle.std.specs.Prelude.{◌<◌, length};
+ghost use Rattle.std.specs.List.{All};
+ghost use Rattle.heaps.specs.Held.{held};
 
 use crate::due::Due;
 use crate::line::Line;
@@ -15,7 +14,5 @@ mod methods;
 pub struct Agenda<'l, 'm> {
     lines: &'l [Line],
     heap: Heap<'m, Due>,
-    ghost within: { Within heap },
-    ghost heaped: { InHeap due_order heap },
-    ghost placed: { (k : ℕ) (d : Entry) → k < heap.len → (slice_index_or heap.places.now k d).place < length lines.now },
+    ghost placed: { All (λ due. due.place < length lines.now) (held heap) },
 }

@@ -1,27 +1,13 @@
 // When a line is due.
-ghost use Rattle.scripts.specs.Dues.{due_order};
 ghost use Rattle.std.proofs.Common.{rules};
 
-use heaps::{Ordered, Strict};
+use heaps::Strict;
 
-// The instant of a line and its place in the script, counted from 0.
-#[derive(Clone, Copy, Debug)]
+// The instant of a line and its place in the script, counted from 0: by instant, and in one instant by place.
+#[derive(Clone, Copy, Debug, PartialEq, Eq, PartialOrd, Ord)]
 pub struct Due {
     pub instant: u64,
     pub place: usize,
-}
-
-// By instant, and in one instant by place.
-impl Ordered for Due {
-    ghost at_or_before = { due_order };
-
-    ghost total = { Prim.search rules };
-
-    ghost carries = { Prim.search rules };
-
-    fn at_or_before(&self, other: &Due) -> bool {
-        self.instant < other.instant || self.instant == other.instant && self.place <= other.place
-    }
 }
 
 impl Strict for Due {

@@ -11,4 +11,4 @@ mod script;
 pub use agenda::Agenda;
 pub use due::Due;
 pub use line::{Command, Line};
-pub use script::Script;
+pub use script::{MOST_SCRIPT_BYTES, Script};

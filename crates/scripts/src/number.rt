@@ -1,15 +1,31 @@
 // Numbers in a script: digits, with no zero in front of others, and then a byte that ends them.
-ghost use Rattle.std.specs.Prelude.{◌^◌, ◌<◌, ◌≤◌};
-ghost use Rattle.scripts.specs.Fields.{Ends, NumberBefore};
+ghost use Rattle.std.specs.Prelude.{◌≡◌, ◌^◌, ◌≤◌};
+ghost use Rattle.scripts.specs.Fields.{NumberBefore, byte_of};
+
+// The byte that ends a number.
+#[derive(Clone, Copy)]
+pub enum End {
+    Space = b' ' as isize,
+    LineFeed = b'\n' as isize,
+}
+
+impl End {
+    fn byte(self) -> u8
+        ensures answer { result ≡ byte_of self }
+    {
+        self as u8
+    }
+}
 
 // The number at the front of a text, at most `most` and ended by `end`, and the text after that.
-pub fn number_before(text: &[u8], end: u8, most: u64) -> Option<(u64, &[u8])>
-    requires { (Ends end) × (most ≤ 10 ^ 18) }
-    ensures answer { NumberBefore text.now end most result }
+pub fn number_before(text: &[u8], end: End, most: u64) -> Option<(u64, &[u8])>
+    requires { most ≤ 10 ^ 18 }
+    ensures answer { NumberBefore text.now (byte_of end) most result }
 {
+    let last = end.byte();
     let mut value = 0;
     for (i, b) in text.iter().enumerate() {
-        if *b == end {
+        if *b == last {
             if i == 0 {
                 return None;
             }

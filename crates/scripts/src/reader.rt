@@ -1,14 +1,13 @@
 // Reads one line of a script from the front of a text.
-ghost use Rattle.scripts.specs.Fields.{After, CommandRead, Ends, FieldBefore, LineRead, NumberBefore, StartRead};
+ghost use Rattle.scripts.specs.Fields.{After, CommandRead, FieldBefore, LineRead, NumberBefore, StartRead, byte_of};
 
 use crate::line::{Command, Line};
-use crate::number::number_before;
+use crate::number::{End, number_before};
 use limits::HORIZON;
 
 // A number up to 255 that `end` ends, and the text after that.
-fn byte_before(text: &[u8], end: u8) -> Option<(u8, &[u8])>
-    requires { Ends end }
-    ensures answer { NumberBefore text.now end 255 result }
+fn byte_before(text: &[u8], end: End) -> Option<(u8, &[u8])>
+    ensures answer { NumberBefore text.now (byte_of end) 255 result }
 {
     let (number, rest) = number_before(text, end, 255)?;
     Some((number as u8, rest))
@@ -26,9 +25,8 @@ fn after(text: &[u8], byte: u8) -> Option<&[u8]>
 }
 
 // A space, then a number up to 255 that `end` ends, and the text after that.
-fn field_before(text: &[u8], end: u8) -> Option<(u8, &[u8])>
-    requires { Ends end }
-    ensures answer { FieldBefore text.now end result }
+fn field_before(text: &[u8], end: End) -> Option<(u8, &[u8])>
+    ensures answer { FieldBefore text.now (byte_of end) result }
 {
     byte_before(after(text, b' ')?, end)
 }
@@ -37,8 +35,8 @@ fn field_before(text: &[u8], end: u8) -> Option<(u8, &[u8])>
 fn start_fields(text: &[u8]) -> Option<((u8, u8), &[u8])>
     ensures answer { StartRead text.now result }
 {
-    let (server, rest) = field_before(text, b' ')?;
-    let (action, rest) = byte_before(rest, b'\n')?;
+    let (server, rest) = field_before(text, End::Space)?;
+    let (action, rest) = byte_before(rest, End::LineFeed)?;
     Some(((server, action), rest))
 }
 
@@ -49,11 +47,11 @@ fn read_command(text: &[u8]) -> Option<(Command, &[u8])>
     let (letter, fields) = text.split_first()?;
     match *letter as char {
         'A' => {
-            let (server, rest) = field_before(fields, b'\n')?;
+            let (server, rest) = field_before(fields, End::LineFeed)?;
             Some((Command::Admit(server), rest))
         }
         'L' => {
-            let (server, rest) = field_before(fields, b'\n')?;
+            let (server, rest) = field_before(fields, End::LineFeed)?;
             Some((Command::Leave(server), rest))
         }
         'S' => {
@@ -72,7 +70,7 @@ fn read_command(text: &[u8]) -> Option<(Command, &[u8])>
 pub fn read_line(text: &[u8]) -> Option<(Line, &[u8])>
     ensures answer { LineRead text.now result }
 {
-    let (instant, command) = number_before(text, b' ', HORIZON)?;
+    let (instant, command) = number_before(text, End::Space, HORIZON)?;
     let (command, rest) = read_command(command)?;
     Some((Line { instant, command }, rest))
 }

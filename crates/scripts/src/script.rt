@@ -6,6 +6,8 @@ use crate::line::Line;
 
 mod methods;
 
+pub use methods::MOST_SCRIPT_BYTES;
+
 // The lines in their own order, at most 1,024: each instant is up to the horizon.
 #[derive(Drop)]
 pub struct Script {

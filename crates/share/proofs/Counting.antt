@@ -1,8 +1,7 @@
 -- What a trace counts: ticks by the instant at which they begin.
 use Rattle.std.proofs.Common.{◌≡◌, ℕ, ◌+◌, ◌<◌, ◌≤◌, Bool, true, false, cond, ◌&&◌, ltb, leb, refl, ap, ◌∙◌, ⊎_elim, arith}
-use Rattle.share.specs.Answers.{timed, told}
+use Rattle.share.specs.Answers.{Answer, timed, told}
 use Rattle.share.specs.Traces.{Trace, clock_of, count, nothing, said}
-use Rattle.share.specs.declared.calls.Answer.{Answer}
 use Rattle.share.specs.declared.calls.Call.{Call}
 use Rattle.std.proofs.lemmas.Bool.{and_left, and_right, both_ways, cases_lt, cond-false, le-leb, le-ltb, lt-leb, lt-ltb, ltb-true}
 

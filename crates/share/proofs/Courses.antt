@@ -1,5 +1,6 @@
 -- The course of an action along a trace: at work, and then ended for good.
-use Rattle.std.proofs.Common.{◌≡◌, ℕ, zero, suc, ◌+◌, ◌-◌, ◌<◌, ◌≤◌, true, false, not, ◌&&◌, eqb, ◌⊎◌, sym, refl, ap, ◌∙◌, subst, inl, inr, ⊎_elim, arith}
+use Rattle.limits.specs.Tasks.{task}
+use Rattle.std.proofs.Common.{◌≡◌, ℕ, zero, suc, ◌+◌, ◌-◌, ◌<◌, ◌≤◌, true, false, not, ◌&&◌, eqb, ◌⊎◌, sym, refl, ap, ◌∙◌, subst, inl, inr, ⊎_elim, arith, Ok, is_ok}
 use Rattle.limits.proofs.Passed.{or_none, refuse_none}
 use Rattle.limits.specs.Checks.{action_check, server_check}
 use Rattle.limits.specs.declared.refusal.Refusal.TheVariants.{NotAdmitted, ActionAtWork}
@@ -8,18 +9,17 @@ use Rattle.release.proofs.Values.{Ranged, ranged}
 use Rattle.release.specs.Actions.{Action, Completes, Meaning, action, boundary, due, forecast}
 use Rattle.release.specs.Rules.{WithinShare}
 use Rattle.share.proofs.Counting.{count_empty, count_idle, count_one, count_over, count_past}
-use Rattle.share.proofs.Judging.{by_check, refused_not}
+use Rattle.share.proofs.Judging.{by_check}
 use Rattle.share.proofs.Explain.{standing}
 use Rattle.share.proofs.Leading.{Leads, Row, by_checks, row_of}
 use Rattle.share.proofs.Seeing.{arrived, latest}
 use Rattle.share.proofs.Turning.{Turned, turned}
-use Rattle.share.specs.Answers.{accepted, timed, told}
+use Rattle.share.specs.Answers.{Answer, timed, told}
 use Rattle.share.specs.Share.{ByChecks, Judged}
 use Rattle.share.specs.Traces.{Begins, Trace, admitted, at_work, cap_held, clock_of, ends_in, finishes, nothing, said, served_in, serves, starts}
-use Rattle.share.specs.declared.calls.Answer.{Answer}
-use Rattle.share.specs.declared.calls.Answer.TheVariants.{Started, Ticked}
 use Rattle.share.specs.declared.calls.Call.{Call}
 use Rattle.share.specs.declared.calls.Call.TheVariants.{Admit, Leave, Start, Tick, Advance}
+use Rattle.share.specs.declared.calls.Outcome.TheVariants.{Started, Ticked}
 use Rattle.slots.specs.Checks.{start_check}
 use Rattle.slots.specs.Steps.{Model, ticked}
 use Rattle.std.proofs.lemmas.Bool.{and_left, and_parts, both_ways, cases_Bool, cases_lt, cond-false, cond-true, eq-eqb, eqb-true, ltb-false}
@@ -28,22 +28,22 @@ use Rattle.std.proofs.lemmas.Bool.{and_left, and_parts, both_ways, cases_Bool, c
 pub record Granted (rule : Meaning) (p : Trace) (s : ℕ) (k : Action) (a : Answer) : Type 0 where
   pub values : Ranged k
   pub rests : at_work p s ≡ false
-  pub answer : a ≡ Started (forecast rule k)
+  pub answer : a ≡ Ok (Started (forecast rule k))
 
-pub granted_at : (rule : Meaning) (p : Trace) (s load limit period : ℕ) (a : Answer) → ByChecks rule p (Start s load limit period) a → accepted a ≡ true → Granted rule p s (action (clock_of p) load limit period) a
+pub granted_at : (rule : Meaning) (p : Trace) (s load limit period : ℕ) (a : Answer) → ByChecks rule p (Start s (task load limit period)) a → is_ok a ≡ true → Granted rule p s (action (clock_of p) load limit period) a
 granted_at rule p s load limit period a r ok =
     let k = action (clock_of p) load limit period in
-    by_check (start_check rule s k (admitted p s) (at_work p s) (cap_held p s)) (λ v. Judged v (a ≡ Started (forecast rule k)) a → Granted rule p s k a)
+    by_check (start_check rule s k (admitted p s) (at_work p s) (cap_held p s)) (λ v. Judged v (a ≡ Ok (Started (forecast rule k))) a → Granted rule p s k a)
     (λ none is.
     let x = or_none (server_check s) _ none in
     let y = or_none (action_check load limit period) _ x.1 in
     let z = refuse_none (not (admitted p s)) NotAdmitted _ y.1 in
     let w = refuse_none (at_work p s) ActionAtWork _ z.1 in
     record { values = ranged k y.0; rests = w.0; answer = is })
-    (λ why _ is. absurd (both_ways (accepted a) (ap accepted is ∙ refused_not why) ok))
+    (λ why _ is. absurd (both_ways (is_ok a) (ap is_ok is) ok))
     r
 
-pub granted : (rule : Meaning) (p : Trace) (s : ℕ) (k : Action) (a : Answer) → clock_of p ≡ k.arrival → ByChecks rule p (Start s k.load k.limit k.period) a → accepted a ≡ true → Granted rule p s k a
+pub granted : (rule : Meaning) (p : Trace) (s : ℕ) (k : Action) (a : Answer) → clock_of p ≡ k.arrival → ByChecks rule p (Start s (task k.load k.limit k.period)) a → is_ok a ≡ true → Granted rule p s k a
 granted rule p s k a at r ok = subst (λ (t : ℕ). Granted rule p s (action t k.load k.limit k.period) a) at (granted_at rule p s k.load k.limit k.period a r ok)
 
 -- who is at work does not start again
@@ -52,14 +52,14 @@ not_again rule p s (Admit t c) a r w = refl
 not_again rule p s (Leave t) a r w = refl
 not_again rule p s Tick a r w = refl
 not_again rule p s (Advance n) a r w = refl
-not_again rule p s (Start t load limit period) a r w =
+not_again rule p s (Start t asked) a r w =
     ⊎_elim
-    (λ (h : (accepted a && eqb t s) ≡ true).
-    let b = and_parts (accepted a) (eqb t s) h in
-    let g = granted_at rule p t load limit period a r b.0 in
+    (λ (h : (is_ok a && eqb t s) ≡ true).
+    let b = and_parts (is_ok a) (eqb t s) h in
+    let g = granted_at rule p t asked.load asked.limit asked.period a r b.0 in
     absurd (both_ways (at_work p t) g.rests (ap (at_work p) (eqb-true t s b.1) ∙ w)))
-    (λ (h : (accepted a && eqb t s) ≡ false). h)
-    (cases_Bool (accepted a && eqb t s))
+    (λ (h : (is_ok a && eqb t s) ≡ false). h)
+    (cases_Bool (is_ok a && eqb t s))
 
 pub record Running (rule : Meaning) (q : Trace) (s : ℕ) (k : Action) : Type 0 where
   pub work : at_work q s ≡ true
@@ -170,7 +170,7 @@ module _ (rule : Meaning) (s : ℕ) (k : Action) (r : Ranged k) where
   -- the start
   module _ (end : ℕ) where
     abbrev started : Trace → Trace
-    started p = said p (Start s k.load k.limit k.period) (Started end)
+    started p = said p (Start s (task k.load k.limit k.period)) (Ok (Started end))
 
     at_once : (p : Trace) → clock_of p ≡ k.arrival → (j : ℕ) → boundary k j ≤ clock_of p → (served_in p s k.arrival (boundary k j) ≡ due rule k j) × (due rule k j < k.load)
     at_once p at zero b =
@@ -206,8 +206,8 @@ module _ (rule : Meaning) (s : ℕ) (k : Action) (r : Ranged k) where
           go : Row rule p c a → Course rule (said p c a) s k
           go w =
               let b = ticked (standing p w.slots) in
-              let u : Turned rule p s k (Ticked b) = subst (λ (x : Action). Turned rule p s x (Ticked b)) h.mine (turned rule p w.slots w.explains s h.work) in
-              subst (λ (x : Call). Course rule (said p x a) s k) (sym w.call) (subst (λ (x : Answer). Course rule (said p Tick x) s k) (sym w.answer) (tick_course p (Ticked b) refl refl u h))
+              let u : Turned rule p s k (Ok (Ticked b)) = subst (λ (x : Action). Turned rule p s x (Ok (Ticked b))) h.mine (turned rule p w.slots w.explains s h.work) in
+              subst (λ (x : Call). Course rule (said p x a) s k) (sym w.call) (subst (λ (x : Answer). Course rule (said p Tick x) s k) (sym w.answer) (tick_course p (Ok (Ticked b)) refl refl u h))
 
       pub course : (q : Trace) (m : Model) → Leads rule q m → (p : Trace) → clock_of p ≡ k.arrival → Begins (started p) q → Course rule q s k
       course nothing m l p at b = let z : ◌≡◌ {A = ℕ} 0 1 = cc in absurd (omega arith)

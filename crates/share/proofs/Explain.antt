@@ -1,5 +1,6 @@
 -- A trace tells the slots; admit, leave and start keep it so.
-use Rattle.std.proofs.Common.{◌≡◌, ℕ, zero, suc, ◌+◌, ◌-◌, ◌*◌, ◌<◌, ◌≤◌, Bool, true, false, not, ltb, List, [], ◌∷◌, length, get_or, set, None, sum_by, Option, sym, refl, ap, ◌∙◌, subst, ⊎_elim, add-zero, arith}
+use Rattle.limits.specs.Tasks.{task}
+use Rattle.std.proofs.Common.{◌≡◌, ℕ, zero, suc, ◌+◌, ◌-◌, ◌*◌, ◌<◌, ◌≤◌, Bool, true, false, not, ltb, List, [], ◌∷◌, length, get_or, set, None, sum_by, Option, sym, refl, ap, ◌∙◌, subst, ⊎_elim, add-zero, arith, Ok, Err}
 use Rattle.board.proofs.Begins.{opening}
 use Rattle.board.proofs.Judged.{cap_none, server_none}
 use Rattle.limits.proofs.Passed.{or_none, refuse_none}
@@ -10,16 +11,16 @@ use Rattle.limits.specs.declared.refusal.Refusal.TheVariants.{NotAdmitted, Alrea
 use Rattle.release.proofs.Values.{ranged}
 use Rattle.release.specs.Actions.{Action, Meaning, action, forecast}
 use Rattle.release.specs.Rules.{WithinShare}
-use Rattle.share.proofs.Judging.{by_check, judged_right, refused_not}
+use Rattle.share.proofs.Judging.{by_check, judged_right}
 use Rattle.share.proofs.Pace.{Seen, Suits, open_pace, suits_tells}
 use Rattle.share.proofs.Seeing.{not_accepted, seen, seen_same, seen_started}
+use Rattle.share.specs.Answers.{Answer}
 use Rattle.share.specs.Plays.{after_call, answer_of, spoken}
 use Rattle.share.specs.Share.{ByChecks, Judged}
 use Rattle.share.specs.Traces.{Trace, admitted, at_work, cap_held, caps_held, clock_of, said}
-use Rattle.share.specs.declared.calls.Answer.{Answer}
-use Rattle.share.specs.declared.calls.Answer.TheVariants.{Done, Started, Refused}
 use Rattle.share.specs.declared.calls.Call.{Call}
 use Rattle.share.specs.declared.calls.Call.TheVariants.{Admit, Leave, Start}
+use Rattle.share.specs.declared.calls.Outcome.TheVariants.{Done, Started}
 use Rattle.slots.proofs.Starting.{admitting, leaving, starting}
 use Rattle.slots.specs.Checks.{admit_check, leave_check, start_check}
 use Rattle.slots.specs.Slots.{Sound, cap_of, total}
@@ -79,13 +80,13 @@ module _ (rule : Meaning) (p : Trace) (xs : List Slot) (e : Explains rule p xs) 
   same_clock c a ys same h = subst (λ (t : ℕ). Sound t ys) (sym same) h
 
   -- a refusal changes nothing that the trace tells
-  pub refused : (c : Call) (why : Refusal) → Explained rule (said p c (Refused why)) (standing p xs)
+  pub refused : (c : Call) (why : Refusal) → Explained rule (said p c (Err why)) (standing p xs)
   refused c why = record {
     clock = sym (add-zero (clock_of p));
     explains = record {
       sized = e.sized;
-      sound = same_clock c (Refused why) xs (add-zero (clock_of p)) e.sound;
-      slots = λ s. subst (λ (o : Seen). Suits rule o (place_of xs s)) (sym (seen_same p c (Refused why) s refl (not_accepted s c (Refused why) (refused_not why)))) (e.slots s);
+      sound = same_clock c (Err why) xs (add-zero (clock_of p)) e.sound;
+      slots = λ s. subst (λ (o : Seen). Suits rule o (place_of xs s)) (sym (seen_same p c (Err why) s refl (not_accepted s c (Err why) refl))) (e.slots s);
     };
   }
 
@@ -137,7 +138,7 @@ module _ (rule : Meaning) (p : Trace) (xs : List Slot) (e : Explains rule p xs) 
   admit_check_lem zero c = refl
   admit_check_lem (suc i) c = ap (λ (x : Bool). admit_check (suc i) c x (total cap_of xs)) (tells rule p xs e (suc i) (omega arith)).0 ∙ ap (admit_check (suc i) c (admitted p (suc i))) (held rule p xs e)
 
-  admit_done : (s c : ℕ) → admit_refusal m s c ≡ None → Explained rule (said p (Admit s c) Done) (put m s (Resting c))
+  admit_done : (s c : ℕ) → admit_refusal m s c ≡ None → Explained rule (said p (Admit s c) (Ok Done)) (put m s (Resting c))
   admit_done s c w =
       let x = slot_of xs s in
       let a = or_none (server_check s) _ w in
@@ -147,15 +148,15 @@ module _ (rule : Meaning) (p : Trace) (xs : List Slot) (e : Explains rule p xs) 
       let range = server_none s a.0 in
       let none = absent_is x d.0 in
       let z = eq-eqb s s refl in
-      put_keeps rule p xs e (Admit s c) Done (add-zero (clock_of p)) s range.0 range.1 (Resting c)
+      put_keeps rule p xs e (Admit s c) (Ok Done) (add-zero (clock_of p)) s range.0 range.1 (Resting c)
       (admitting (clock_of p) xs (s - 1) (omega (arith, e.sized)) e.sound c none (cap_none c b.0).0 (ltb-false unit (total cap_of xs + c) f.0))
       (cond-true _ _ _ z, cond-true _ _ _ z, sym (tells rule p xs e s range.0).1 ∙ ap works none)
-      (λ t ne. seen_same p (Admit s c) Done t refl (record { admit = ne_eqb s t ne; leave = refl; start = refl }))
+      (λ t ne. seen_same p (Admit s c) (Ok Done) t refl (record { admit = ne_eqb s t ne; leave = refl; start = refl }))
 
   pub admit_step : (s c : ℕ) → Stepped rule p m (Admit s c)
   admit_step s c =
       let a = answer_of rule m (Admit s c) in (
-        subst (λ (v : Option Refusal). Judged v (a ≡ Done) a) (admit_check_lem s c) (judged_right (λ _. Done) (tt {0}) (admit_refusal m s c) (λ a. a ≡ Done) (λ _. refl)),
+        subst (λ (v : Option Refusal). Judged v (a ≡ Ok Done) a) (admit_check_lem s c) (judged_right (λ _. Done) (tt {0}) (admit_refusal m s c) (λ a. a ≡ Ok Done) (λ _. refl)),
         by_check (admit_refusal m s c) (λ v. Explained rule (said p (Admit s c) (spoken (λ _. Done) (judged v (tt {0})))) (changed v m (put m s (Resting c)))) (admit_done s c) (λ why _. refused rule p xs e (Admit s c) why),
       )
 
@@ -165,7 +166,7 @@ module _ (rule : Meaning) (p : Trace) (xs : List Slot) (e : Explains rule p xs) 
       let r = tells rule p xs e (suc i) (omega arith) in
       ap (λ (x : Bool). leave_check (suc i) x (works (slot_of xs (suc i)))) r.0 ∙ ap (leave_check (suc i) (admitted p (suc i))) r.1
 
-  leave_done : (s : ℕ) → leave_refusal m s ≡ None → Explained rule (said p (Leave s) Done) (put m s Absent)
+  leave_done : (s : ℕ) → leave_refusal m s ≡ None → Explained rule (said p (Leave s) (Ok Done)) (put m s Absent)
   leave_done s w =
       let x = slot_of xs s in
       let a = or_none (server_check s) _ w in
@@ -173,15 +174,15 @@ module _ (rule : Meaning) (p : Trace) (xs : List Slot) (e : Explains rule p xs) 
       let d = refuse_none (works x) ActionAtWork None b.1 in
       let range = server_none s a.0 in
       let z = eq-eqb s s refl in
-      put_keeps rule p xs e (Leave s) Done (add-zero (clock_of p)) s range.0 range.1 Absent
+      put_keeps rule p xs e (Leave s) (Ok Done) (add-zero (clock_of p)) s range.0 range.1 Absent
       (leaving (clock_of p) xs (s - 1) (omega (arith, e.sized)) e.sound (cap_of x) (resting_is x (not-false (present x) b.0) d.0))
       (cond-true _ _ _ z, cond-true _ _ _ z, sym (tells rule p xs e s range.0).1 ∙ d.0)
-      (λ t ne. seen_same p (Leave s) Done t refl (record { admit = refl; leave = ne_eqb s t ne; start = refl }))
+      (λ t ne. seen_same p (Leave s) (Ok Done) t refl (record { admit = refl; leave = ne_eqb s t ne; start = refl }))
 
   pub leave_step : (s : ℕ) → Stepped rule p m (Leave s)
   leave_step s =
       let a = answer_of rule m (Leave s) in (
-        subst (λ (v : Option Refusal). Judged v (a ≡ Done) a) (leave_check_lem s) (judged_right (λ _. Done) (tt {0}) (leave_refusal m s) (λ a. a ≡ Done) (λ _. refl)),
+        subst (λ (v : Option Refusal). Judged v (a ≡ Ok Done) a) (leave_check_lem s) (judged_right (λ _. Done) (tt {0}) (leave_refusal m s) (λ a. a ≡ Ok Done) (λ _. refl)),
         by_check (leave_refusal m s) (λ v. Explained rule (said p (Leave s) (spoken (λ _. Done) (judged v (tt {0})))) (changed v m (put m s Absent))) (leave_done s) (λ why _. refused rule p xs e (Leave s) why),
       )
 
@@ -191,7 +192,7 @@ module _ (rule : Meaning) (p : Trace) (xs : List Slot) (e : Explains rule p xs) 
     k = action (clock_of p) load limit period
 
     abbrev c : Call
-    c = Start s load limit period
+    c = Start s (task load limit period)
 
     abbrev w : Slot
     w = Working (opened rule (cap_of (slot_of xs s)) k)
@@ -205,7 +206,7 @@ module _ (rule : Meaning) (p : Trace) (xs : List Slot) (e : Explains rule p xs) 
         ∙ ap (λ (b : Bool). start_check rule (suc i) k (admitted p (suc i)) b (cap_of x)) r.1
         ∙ ap (start_check rule (suc i) k (admitted p (suc i)) (at_work p (suc i))) r.2
 
-    start_done : start_refusal rule m s k ≡ None → Explained rule (said p c (Started (forecast rule k))) (put m s w)
+    start_done : start_refusal rule m s k ≡ None → Explained rule (said p c (Ok (Started (forecast rule k)))) (put m s w)
     start_done none =
         let x = slot_of xs s in
         let a = or_none (server_check s) _ none in
@@ -219,14 +220,14 @@ module _ (rule : Meaning) (p : Trace) (xs : List Slot) (e : Explains rule p xs) 
         let there = not-false (present x) d.0 in
         let is = tells rule p xs e s range.0 in
         let fits = (opening rule law k (cap_of x) r (ltb-false (cap_of x * period) (limit * unit) g.0) (ltb-false horizon (forecast rule k) h.0)).fits in
-        put_keeps rule p xs e c (Started (forecast rule k)) (add-zero (clock_of p)) s range.0 range.1 w
+        put_keeps rule p xs e c (Ok (Started (forecast rule k))) (add-zero (clock_of p)) s range.0 range.1 w
         (starting (clock_of p) xs (s - 1) (omega (arith, e.sized)) e.sound (opened rule (cap_of x) k) (resting_is x there f.0) fits)
         (subst (λ (o : Seen). Suits rule o w) (sym (seen_started p s load limit period (forecast rule k))) (sym is.0 ∙ there, sym is.2, refl, open_pace rule (cap_of x) k r))
-        (λ t ne. seen_same p c (Started (forecast rule k)) t refl (record { admit = refl; leave = refl; start = ne_eqb s t ne }))
+        (λ t ne. seen_same p c (Ok (Started (forecast rule k))) t refl (record { admit = refl; leave = refl; start = ne_eqb s t ne }))
 
     pub start_step : Stepped rule p m c
     start_step =
         let a = answer_of rule m c in (
-          subst (λ (v : Option Refusal). Judged v (a ≡ Started (forecast rule k)) a) (start_check_lem s) (judged_right Started (forecast rule k) (start_refusal rule m s k) (λ a. a ≡ Started (forecast rule k)) (λ _. refl)),
+          subst (λ (v : Option Refusal). Judged v (a ≡ Ok (Started (forecast rule k))) a) (start_check_lem s) (judged_right Started (forecast rule k) (start_refusal rule m s k) (λ a. a ≡ Ok (Started (forecast rule k))) (λ _. refl)),
           by_check (start_refusal rule m s k) (λ v. Explained rule (said p c (spoken Started (judged v (forecast rule k)))) (changed v m (put m s w))) start_done (λ why _. refused rule p xs e c why),
         )

@@ -1,5 +1,6 @@
 -- The share law holds of every trace of single ticks that a board leads to.
-use Rattle.std.proofs.Common.{◌≡◌, ℕ, zero, suc, ◌+◌, ◌-◌, ◌<◌, ◌≤◌, true, false, ◌&&◌, eqb, sym, refl, ap, ◌∙◌, subst, inl, inr, ⊎_elim, arith}
+use Rattle.limits.specs.Tasks.{task}
+use Rattle.std.proofs.Common.{◌≡◌, ℕ, zero, suc, ◌+◌, ◌-◌, ◌<◌, ◌≤◌, true, false, ◌&&◌, eqb, sym, refl, ap, ◌∙◌, subst, inl, inr, ⊎_elim, arith, Ok, is_ok}
 use Rattle.release.proofs.Boundaries.{boundary_le, boundary_order, completes_once, first_from, forecast_is, no_less, no_more}
 use Rattle.release.specs.Actions.{Action, Completes, Meaning, action, amount, begins, boundary, due, forecast}
 use Rattle.release.specs.Rules.{WithinShare}
@@ -8,13 +9,12 @@ use Rattle.share.proofs.Courses.{Course, Granted, Over, Running, course, granted
 use Rattle.share.proofs.Explain.{held, standing}
 use Rattle.share.proofs.Leading.{Leads, Row, by_checks, explained, led, row_of}
 use Rattle.share.proofs.Turning.{Turned, ends_worker, never_late_lem, releases_worker, serves_worker, turned}
-use Rattle.share.specs.Answers.{accepted, timed, told}
+use Rattle.share.specs.Answers.{Answer, timed, told}
 use Rattle.share.specs.Share.{ActionShare, Began, ByChecks, Ended, Lasts, Share, TickShare, WorksOn}
 use Rattle.share.specs.Traces.{Begins, Trace, at_work, clock_of, ends_in, finishes, nothing, said, served_in, serves, starts}
-use Rattle.share.specs.declared.calls.Answer.{Answer}
-use Rattle.share.specs.declared.calls.Answer.TheVariants.{Started, Ticked}
 use Rattle.share.specs.declared.calls.Call.{Call}
 use Rattle.share.specs.declared.calls.Call.TheVariants.{Admit, Leave, Start, Tick, Advance}
+use Rattle.share.specs.declared.calls.Outcome.TheVariants.{Started, Ticked}
 use Rattle.slots.specs.Steps.{Model, ticked}
 use Rattle.std.proofs.lemmas.Bool.{and_parts, both_ways, cases_Bool, cases_lt, cases_order, cond-false, cond-true, eqb-true}
 
@@ -27,15 +27,15 @@ began_now rule p s (Admit t k) a r h = absurd (both_ways false refl h)
 began_now rule p s (Leave t) a r h = absurd (both_ways false refl h)
 began_now rule p s Tick a r h = absurd (both_ways false refl h)
 began_now rule p s (Advance n) a r h = absurd (both_ways false refl h)
-began_now rule p s (Start t load limit period) a r h =
-    let b = and_parts (accepted a) (eqb t s) h in
-    let k = action (clock_of p) load limit period in
-    let g = granted_at rule p t load limit period a r b.0 in
+began_now rule p s (Start t asked) a r h =
+    let b = and_parts (is_ok a) (eqb t s) h in
+    let k = action (clock_of p) asked.load asked.limit asked.period in
+    let g = granted_at rule p t asked.load asked.limit asked.period a r b.0 in
     let e = forecast rule k in
     let same = eqb-true t s b.1 in
-    let z : ends_in (said p (Start t load limit period) (Started e)) s (clock_of p) (clock_of p + 0) ≡ 0 = count_empty (finishes s) p (clock_of p) (clock_of p + 0) (omega arith) in
-    let i : AtIt (said p (Start t load limit period) (Started e)) s = (k, (e, record { before = p; answer = Started e; arrives = refl; accepts = refl; forecasts = refl; part = inl (ap (λ (x : ℕ). said p (Start x load limit period) (Started e)) (sym same)) }, z)) in
-    subst (λ (x : Answer). AtIt (said p (Start t load limit period) x) s) (sym g.answer) i
+    let z : ends_in (said p (Start t asked) (Ok (Started e))) s (clock_of p) (clock_of p + 0) ≡ 0 = count_empty (finishes s) p (clock_of p) (clock_of p + 0) (omega arith) in
+    let i : AtIt (said p (Start t asked) (Ok (Started e))) s = (k, (e, record { before = p; answer = Ok (Started e); arrives = refl; accepts = refl; forecasts = refl; part = inl (ap (λ (x : ℕ). said p (Start x asked) (Ok (Started e))) (sym same)) }, z)) in
+    subst (λ (x : Answer). AtIt (said p (Start t asked) x) s) (sym g.answer) i
 
 module _ (rule : Meaning) (law : WithinShare rule) where
   at_it : (q : Trace) (m : Model) → Leads rule q m → (s : ℕ) → at_work q s ≡ true → AtIt q s
@@ -58,12 +58,12 @@ module _ (rule : Meaning) (law : WithinShare rule) where
   -- an action that began
   module _ (all : Trace) (m : Model) (leads : Leads rule all m) (s : ℕ) (k : Action) (e : ℕ) (b : Began all s k e) where
     abbrev began : Trace → Answer → Trace
-    began p a = said p (Start s k.load k.limit k.period) a
+    began p a = said p (Start s (task k.load k.limit k.period)) a
 
     ok : Granted rule b.before s k b.answer
     ok =
         let l = led rule (began b.before b.answer) all m b.part leads in
-        granted rule b.before s k b.answer b.arrives (by_checks rule law b.before (Start s k.load k.limit k.period) b.answer l.0 l.1) b.accepts
+        granted rule b.before s k b.answer b.arrives (by_checks rule law b.before (Start s (task k.load k.limit k.period)) b.answer l.0 l.1) b.accepts
 
     promised : e ≡ forecast rule k
     promised = sym b.forecasts ∙ ap (λ (a : Answer). (told a).end) ok.answer
@@ -164,7 +164,7 @@ module _ (rule : Meaning) (law : WithinShare rule) where
   -- a tick
   module _ (q : Trace) (m : Model) (leads : Leads rule q m) (c : Call) (a : Answer) (w : Row rule q c a) where
     abbrev b : Answer
-    b = Ticked (ticked (standing q w.slots))
+    b = Ok (Ticked (ticked (standing q w.slots)))
 
     turns_on : (s : ℕ) (k : Action) → WorksOn q s k → Turned rule q s k b
     turns_on s k o =

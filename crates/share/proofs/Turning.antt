@@ -1,15 +1,15 @@
 -- A tick keeps what the trace tells, and what it tells of each server at work.
-use Rattle.std.proofs.Common.{◌≡◌, ℕ, zero, suc, ◌+◌, ◌<◌, Bool, true, false, cond, List, get_or, Some, None, Option, sym, refl, ap, ◌∙◌, subst, arith}
+use Rattle.std.proofs.Common.{◌≡◌, ℕ, zero, suc, ◌+◌, ◌<◌, Bool, true, false, cond, List, get_or, Some, None, Option, sym, refl, ap, ◌∙◌, subst, arith, Ok}
 use Rattle.release.specs.Actions.{Action, Completes, Meaning, boundary, due}
 use Rattle.share.proofs.Explain.{Explained, Explains, Stepped, place_of, refused, standing}
 use Rattle.share.proofs.Judging.{by_check, judged_right}
 use Rattle.share.proofs.Pace.{Seen, Suits, closed_by, served_by, suits_closed, suits_served, suits_shows, suits_tells}
 use Rattle.share.proofs.Seeing.{given_next, latest, seen, seen_ticked}
+use Rattle.share.specs.Answers.{Answer}
 use Rattle.share.specs.Plays.{spoken}
 use Rattle.share.specs.Traces.{Trace, at_work, clock_of, finishes, releases, said, served_in, serves}
-use Rattle.share.specs.declared.calls.Answer.{Answer}
-use Rattle.share.specs.declared.calls.Answer.TheVariants.{Ticked}
 use Rattle.share.specs.declared.calls.Call.TheVariants.{Tick}
+use Rattle.share.specs.declared.calls.Outcome.TheVariants.{Ticked}
 use Rattle.slots.proofs.Closing.{none_late}
 use Rattle.slots.proofs.Picking.{pick_tells}
 use Rattle.slots.proofs.Places.{all_at, get_d_map, has_mask, length_serve, mask_none, served_here, served_waits, waits_works}
@@ -63,7 +63,7 @@ module _ (rule : Meaning) (p : Trace) (xs : List Slot) (e : Explains rule p xs) 
   told_now = ticked (standing p xs)
 
   abbrev q : Trace
-  q = said p Tick (Ticked told_now)
+  q = said p Tick (Ok (Ticked told_now))
 
   picked : Picked xs (pick xs)
   picked = pick_tells xs
@@ -98,10 +98,10 @@ module _ (rule : Meaning) (p : Trace) (xs : List Slot) (e : Explains rule p xs) 
     suits_mid : Suits rule mid y
     suits_mid = subst (Suits rule mid) (sym here) (suits_served rule (seen p (suc i)) hit old (served_waits xs (pick xs) i picked) (e.slots (suc i)))
 
-    ends_is : finishes (suc i) (Ticked told_now) ≡ ends (now + 1) y
+    ends_is : finishes (suc i) (Ok (Ticked told_now)) ≡ ends (now + 1) y
     ends_is = has_mask (ends (now + 1)) refl ys i
 
-    goes_on_is : releases (suc i) (Ticked told_now) ≡ goes_on (now + 1) y
+    goes_on_is : releases (suc i) (Ok (Ticked told_now)) ≡ goes_on (now + 1) y
     goes_on_is = has_mask (goes_on (now + 1)) refl ys i
 
     tick_slot : Suits rule (seen q (suc i)) (get_or (tick now xs) i Absent)
@@ -110,7 +110,7 @@ module _ (rule : Meaning) (p : Trace) (xs : List Slot) (e : Explains rule p xs) 
         let at : get_or (tick now xs) i Absent ≡ closed (now + 1) y = get_d_map (closed (now + 1)) ys i refl in
         subst (Suits rule (seen q (suc i))) (sym at) (subst (λ (o : Seen). Suits rule o (closed (now + 1) y)) (sym is) (suits_closed rule mid y on_time suits_mid))
 
-    tick_turned : at_work p (suc i) ≡ true → Turned rule p (suc i) (latest p (suc i)) (Ticked told_now)
+    tick_turned : at_work p (suc i) ≡ true → Turned rule p (suc i) (latest p (suc i)) (Ok (Ticked told_now))
     tick_turned w =
         let t = suits_shows rule mid y fine on_time w suits_mid in
         let given = given_next p (suc i) told_now in
@@ -145,24 +145,24 @@ module _ (rule : Meaning) (p : Trace) (xs : List Slot) (e : Explains rule p xs) 
   pub tick_step : Stepped rule p (standing p xs) Tick
   tick_step =
       let m = standing p xs in (
-        judged_right Ticked told_now (tick_refusal m) (λ a. (t : OneTick) × (a ≡ Ticked t)) (λ _. (told_now, refl)),
+        judged_right Ticked told_now (tick_refusal m) (λ a. (t : OneTick) × (a ≡ Ok (Ticked t))) (λ _. (told_now, refl)),
         by_check (tick_refusal m) (λ v. Explained rule (said p Tick (spoken Ticked (judged v told_now))) (changed v m (moved m))) (λ _. tick_done) (λ why _. refused rule p xs e Tick why),
       )
 
-  pub turned : (s : ℕ) → at_work p s ≡ true → Turned rule p s (latest p s) (Ticked told_now)
+  pub turned : (s : ℕ) → at_work p s ≡ true → Turned rule p s (latest p s) (Ok (Ticked told_now))
   turned zero w = absurd (both_ways (at_work p zero) (e.slots zero).2 w)
   turned (suc i) w = tick_turned i w
 
   -- who is served, ended or released was at work
-  pub serves_worker : (s : ℕ) → serves s (Ticked told_now) ≡ true → at_work p s ≡ true
+  pub serves_worker : (s : ℕ) → serves s (Ok (Ticked told_now)) ≡ true → at_work p s ≡ true
   serves_worker zero h = absurd (nobody_served (pick xs) h)
   serves_worker (suc i) h = at_work_lem i (waits_works (old i) (served_waits xs (pick xs) i picked h))
 
-  pub ends_worker : (s : ℕ) → finishes s (Ticked told_now) ≡ true → at_work p s ≡ true
+  pub ends_worker : (s : ℕ) → finishes s (Ok (Ticked told_now)) ≡ true → at_work p s ≡ true
   ends_worker zero h = absurd (both_ways false refl h)
   ends_worker (suc i) h = shown i (ends_works (now + 1) (y i) (sym (ends_is i) ∙ h))
 
-  pub releases_worker : (s : ℕ) → releases s (Ticked told_now) ≡ true → at_work p s ≡ true
+  pub releases_worker : (s : ℕ) → releases s (Ok (Ticked told_now)) ≡ true → at_work p s ≡ true
   releases_worker zero h = absurd (both_ways false refl h)
   releases_worker (suc i) h = shown i (goes_on_works (now + 1) (y i) (sym (goes_on_is i) ∙ h))
 

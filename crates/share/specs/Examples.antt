@@ -1,14 +1,15 @@
 -- Traces, computed: some that keep the share law, and one for each of many ways to break it.
-use Rattle.std.specs.Prelude.{ℕ, List, [], ◌∷◌, ◌++◌, Some, None, Option}
+use Rattle.limits.specs.Tasks.{task}
+use Rattle.std.specs.Prelude.{ℕ, List, [], ◌∷◌, ◌++◌, Some, None, Ok, Err, Option}
 use Rattle.limits.specs.declared.refusal.Refusal.TheVariants.{ActionAtWork}
 use Rattle.release.specs.Actions.{Meaning}
 use Rattle.release.specs.Rules.{early, late}
+use Rattle.share.specs.Answers.{Answer}
 use Rattle.share.specs.Share.{Kept}
 use Rattle.share.specs.Traces.{Trace, nothing, said}
-use Rattle.share.specs.declared.calls.Answer.{Answer}
-use Rattle.share.specs.declared.calls.Answer.TheVariants.{Done, Started, Ticked, Advanced, Refused}
 use Rattle.share.specs.declared.calls.Call.{Call}
 use Rattle.share.specs.declared.calls.Call.TheVariants.{Admit, Leave, Start, Tick, Advance}
+use Rattle.share.specs.declared.calls.Outcome.TheVariants.{Done, Started, Ticked, Advanced}
 use Rattle.slots.specs.declared.sets.Sets.{Sets}
 
 pub data Example : Type 0 where
@@ -35,11 +36,11 @@ sets released ended late = record { released = record { word = released }; ended
 
 -- one tick: the server served, and the sets
 abbrev pub ticked : Option ℕ → Sets → Call × Answer
-ticked served sets = (Tick, Ticked (record { served = served; sets = sets }))
+ticked served sets = (Tick, Ok (Ticked (record { served = served; sets = sets })))
 
 -- an advance by n: the server served, the ticks, and the sets
 abbrev pub advanced : ℕ → Option ℕ → ℕ → Sets → Call × Answer
-advanced n served ticks sets = (Advance n, Advanced (record { served = served; ticks = ticks; sets = sets }))
+advanced n served ticks sets = (Advance n, Ok (Advanced (record { served = served; ticks = ticks; sets = sets })))
 
 abbrev pub none : Sets
 none = sets 0 0 0
@@ -47,25 +48,25 @@ none = sets 0 0 0
 -- two servers with half the processor each; the second starts in the middle of a period
 abbrev pub worked : Trace
 worked = spoken (
-    (Admit 1 500_000, Done) ∷ (Admit 2 500_000, Done) ∷ (Start 1 3 2 4, Started 8)
+    (Admit 1 500_000, Ok Done) ∷ (Admit 2 500_000, Ok Done) ∷ (Start 1 (task 3 2 4), Ok (Started 8))
     ∷ advanced 1 (Some 1) 1 none
-    ∷ (Start 2 1 1 2, Started 4)
+    ∷ (Start 2 (task 1 1 2), Ok (Started 4))
     ∷ advanced 7 (Some 1) 1 (sets 2 0 0) ∷ advanced 6 (Some 2) 1 none ∷ advanced 5 None 1 (sets 1 2 0)
     ∷ advanced 4 (Some 1) 1 none ∷ advanced 3 None 3 (sets 0 1 0)
-    ∷ (Leave 2, Done) ∷ [])
+    ∷ (Leave 2, Ok Done) ∷ [])
 
 -- a server that starts in the middle of a period, and is released early
 abbrev pub released_early : Trace
 released_early = spoken (
-    (Admit 1 500_000, Done) ∷ ticked None none ∷ (Start 1 3 2 4, Started 8)
+    (Admit 1 500_000, Ok Done) ∷ ticked None none ∷ (Start 1 (task 3 2 4), Ok (Started 8))
     ∷ advanced 100 (Some 1) 1 none ∷ advanced 100 None 2 (sets 1 0 0) ∷ advanced 100 (Some 1) 2 none ∷ advanced 100 None 2 (sets 0 1 0) ∷ [])
 
 -- a server with half the processor starts a load of two limits
 abbrev pub admission : List (Call × Answer)
-admission = (Admit 1 500_000, Done) ∷ []
+admission = (Admit 1 500_000, Ok Done) ∷ []
 
 abbrev pub after : List (Call × Answer) → Trace
-after xs = spoken (admission ++ (Start 1 2 1 2, Started 4) ∷ xs)
+after xs = spoken (admission ++ (Start 1 (task 2 1 2), Ok (Started 4)) ∷ xs)
 
 abbrev pub served : Call × Answer
 served = ticked (Some 1) none
@@ -111,15 +112,15 @@ not_released = after (served ∷ ticked None none ∷ [])
 
 -- a start answers an end that is one period early
 abbrev pub forecast_early : Trace
-forecast_early = spoken (admission ++ (Start 1 2 1 2, Started 2) ∷ [])
+forecast_early = spoken (admission ++ (Start 1 (task 2 1 2), Ok (Started 2)) ∷ [])
 
 -- a refusal that no list gives: that the server is not admitted comes first
 abbrev pub refused_freely : Trace
-refused_freely = spoken ((Leave 1, Refused ActionAtWork) ∷ [])
+refused_freely = spoken ((Leave 1, Err ActionAtWork) ∷ [])
 
 -- more caps than the processor has
 abbrev pub caps_over : Trace
-caps_over = spoken ((Admit 1 600_000, Done) ∷ (Admit 2 600_000, Done) ∷ [])
+caps_over = spoken ((Admit 1 600_000, Ok Done) ∷ (Admit 2 600_000, Ok Done) ∷ [])
 
 -- an advance claims one tick more than it made
 abbrev pub one_tick_more : Trace

@@ -1,15 +1,15 @@
 -- The share law: after every list of calls on one board, from its making on, each server has its share and no more.
 -- It is read from the calls, their answers and the meaning of the release rule, and names nothing inside a board.
-use Rattle.std.specs.Prelude.{◌≡◌, ℕ, ◌+◌, ◌-◌, ◌*◌, ◌/◌, ◌<◌, ◌≤◌, true, List, length, Decides, Option, MatchOption}
+use Rattle.std.specs.Prelude.{◌≡◌, ℕ, ◌+◌, ◌-◌, ◌*◌, ◌/◌, ◌<◌, ◌≤◌, true, List, length, Decides, Ok, Err, Option, MatchOption, is_ok}
 use Rattle.limits.specs.Ranges.{unit}
+use Rattle.limits.specs.Tasks.{task}
 use Rattle.limits.specs.declared.refusal.Refusal.{Refusal}
 use Rattle.release.specs.Actions.{Action, Completes, Meaning, action, amount, begins, boundary, ceil, due, forecast}
-use Rattle.share.specs.Answers.{accepted, timed, told}
+use Rattle.share.specs.Answers.{Answer, timed, told}
 use Rattle.share.specs.Traces.{Begins, Trace, admitted, at_work, cap_held, caps_held, clock_of, ends_in, finishes, heard, nothing, releases, said, served_in, serves, spelt}
-use Rattle.share.specs.declared.calls.Answer.{Answer}
-use Rattle.share.specs.declared.calls.Answer.TheVariants.{Done, Started, Ticked, Advanced, Refused}
 use Rattle.share.specs.declared.calls.Call.{Call}
 use Rattle.share.specs.declared.calls.Call.TheVariants.{Admit, Leave, Start, Tick, Advance}
+use Rattle.share.specs.declared.calls.Outcome.TheVariants.{Done, Started, Ticked, Advanced}
 use Rattle.slots.specs.Checks.{admit_check, advance_check, leave_check, start_check, tick_check}
 use Rattle.slots.specs.declared.sets.Advanced.{Advanced as ManyTicks}
 use Rattle.slots.specs.declared.sets.Ticked.{Ticked as OneTick}
@@ -19,9 +19,9 @@ pub record Began (all : Trace) (s : ℕ) (k : Action) (e : ℕ) : Type 0 where
   pub before : Trace
   pub answer : Answer
   pub arrives : clock_of before ≡ k.arrival
-  pub accepts : accepted answer ≡ true
+  pub accepts : is_ok answer ≡ true
   pub forecasts : (told answer).end ≡ e
-  pub part : Begins (said before (Start s k.load k.limit k.period) answer) all
+  pub part : Begins (said before (Start s (task k.load k.limit k.period)) answer) all
 
 -- after the trace the server s has the action k at work: no tick since its arrival has ended it
 abbrev pub WorksOn : Trace → ℕ → Action → Type 0
@@ -57,17 +57,17 @@ Leaps n t = (1 ≤ t.ticks) × (t.ticks ≤ n)
 
 -- an answer of which P holds where no check fails, and else the refusal
 abbrev pub Judged : Option Refusal → Type 0 → Answer → Type 0
-Judged check P a = MatchOption check P (λ why. a ≡ Refused why)
+Judged check P a = MatchOption check P (λ why. a ≡ Err why)
 
 -- the answer a to a call is the one that its list of checks gives on what the calls before it have left
 abbrev pub ByChecks : Meaning → Trace → Call → Answer → Type 0
-ByChecks rule q (Admit s c) a = Judged (admit_check s c (admitted q s) (caps_held q)) (a ≡ Done) a
-ByChecks rule q (Leave s) a = Judged (leave_check s (admitted q s) (at_work q s)) (a ≡ Done) a
-ByChecks rule q (Start s load limit period) a =
-    let k : Action = action (clock_of q) load limit period in
-    Judged (start_check rule s k (admitted q s) (at_work q s) (cap_held q s)) (a ≡ Started (forecast rule k)) a
-ByChecks rule q Tick a = Judged (tick_check (clock_of q)) ((t : OneTick) × (a ≡ Ticked t)) a
-ByChecks rule q (Advance n) a = Judged (advance_check n (clock_of q)) ((t : ManyTicks) × (a ≡ Advanced t) × Leaps n t) a
+ByChecks rule q (Admit s c) a = Judged (admit_check s c (admitted q s) (caps_held q)) (a ≡ Ok Done) a
+ByChecks rule q (Leave s) a = Judged (leave_check s (admitted q s) (at_work q s)) (a ≡ Ok Done) a
+ByChecks rule q (Start s asked) a =
+    let k : Action = action (clock_of q) asked.load asked.limit asked.period in
+    Judged (start_check rule s k (admitted q s) (at_work q s) (cap_held q s)) (a ≡ Ok (Started (forecast rule k))) a
+ByChecks rule q Tick a = Judged (tick_check (clock_of q)) ((t : OneTick) × (a ≡ Ok (Ticked t))) a
+ByChecks rule q (Advance n) a = Judged (advance_check n (clock_of q)) ((t : ManyTicks) × (a ≡ Ok (Advanced t)) × Leaps n t) a
 
 -- the server s works on an action that comes to one of its boundaries, j, with the next tick, and P holds of the two
 abbrev pub ComesTo : Trace → ℕ → (Action → ℕ → Type 0) → Type 0

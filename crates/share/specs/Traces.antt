@@ -1,11 +1,10 @@
 -- What calls and their answers tell of the time, of admissions and of actions. No state of a board is named here.
-use Rattle.std.specs.Prelude.{◌≡◌, ℕ, zero, suc, ◌+◌, Bool, true, false, cond, ◌&&◌, ◌⊎◌, List, [], ◌∷◌, sum_by, Option, ◌==◌, nat_le, nat_lt}
+use Rattle.std.specs.Prelude.{◌≡◌, ℕ, zero, suc, ◌+◌, Bool, true, false, cond, ◌&&◌, ◌⊎◌, List, [], ◌∷◌, sum_by, Ok, Option, ◌==◌, is_ok, nat_le, nat_lt}
 use Rattle.limits.specs.Ranges.{servers}
-use Rattle.share.specs.Answers.{accepted, timed, told}
-use Rattle.share.specs.declared.calls.Answer.{Answer}
-use Rattle.share.specs.declared.calls.Answer.TheVariants.{Ticked}
+use Rattle.share.specs.Answers.{Answer, timed, told}
 use Rattle.share.specs.declared.calls.Call.{Call}
 use Rattle.share.specs.declared.calls.Call.TheVariants.{Admit, Leave, Start, Tick, Advance}
+use Rattle.share.specs.declared.calls.Outcome.TheVariants.{Ticked}
 use Rattle.slots.specs.Members.{has, is_server, nobody}
 use Rattle.std.specs.List.{range_with_len}
 
@@ -28,13 +27,13 @@ Begins p (said q c a) = (p ≡ said q c a) ⊎ Begins p q
 -- after p, n ticks that serve v and give empty sets
 abbrev pub quiet : Trace → Option ℕ → ℕ → Trace
 quiet p v zero = p
-quiet p v (suc n) = said (quiet p v n) Tick (Ticked (record { served = v; sets = nobody }))
+quiet p v (suc n) = said (quiet p v n) Tick (Ok (Ticked (record { served = v; sets = nobody })))
 
 -- An answer that took ticks is spelt out into single ones: all serve the answered server, and all give empty sets but the
 -- last, which gives the answered sets. An answer that took none stays as it is.
 abbrev pub spell : Trace → Call → Answer → ℕ → Trace
 spell p c a zero = said p c a
-spell p c a (suc n) = said (quiet p (told a).served n) Tick (Ticked (record { served = (told a).served; sets = (told a).sets }))
+spell p c a (suc n) = said (quiet p (told a).served n) Tick (Ok (Ticked (record { served = (told a).served; sets = (told a).sets })))
 
 -- the trace in single ticks
 abbrev pub spelt : Trace → Trace
@@ -53,23 +52,23 @@ finishes s a = has (told a).sets.ended s
 
 -- an accepted admission of the server s, leave of s, start of s
 abbrev pub admits : ℕ → Call → Answer → Bool
-admits s (Admit t c) a = accepted a && t == s
+admits s (Admit t c) a = is_ok a && t == s
 admits s (Leave t) a = false
-admits s (Start t load limit period) a = false
+admits s (Start t asked) a = false
 admits s Tick a = false
 admits s (Advance n) a = false
 
 abbrev pub leaves : ℕ → Call → Answer → Bool
 leaves s (Admit t c) a = false
-leaves s (Leave t) a = accepted a && t == s
-leaves s (Start t load limit period) a = false
+leaves s (Leave t) a = is_ok a && t == s
+leaves s (Start t asked) a = false
 leaves s Tick a = false
 leaves s (Advance n) a = false
 
 abbrev pub starts : ℕ → Call → Answer → Bool
 starts s (Admit t c) a = false
 starts s (Leave t) a = false
-starts s (Start t load limit period) a = accepted a && t == s
+starts s (Start t asked) a = is_ok a && t == s
 starts s Tick a = false
 starts s (Advance n) a = false
 
@@ -77,7 +76,7 @@ starts s (Advance n) a = false
 abbrev pub cap_in : Call → ℕ
 cap_in (Admit t c) = c
 cap_in (Leave t) = 0
-cap_in (Start t load limit period) = 0
+cap_in (Start t asked) = 0
 cap_in Tick = 0
 cap_in (Advance n) = 0
 

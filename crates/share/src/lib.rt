@@ -5,7 +5,7 @@ mod calls;
 mod examples;
 mod playing;
 
-pub use calls::{Answer, Call};
+pub use calls::{Answer, Call, Outcome};
 pub use examples::examples_hold;
 pub use playing::{perform, play};
 

@@ -1,76 +1,29 @@
 // A list of calls, played on a new board.
-ghost use Rattle.board.specs.Boards.{Agrees, model};
-ghost use Rattle.share.specs.Answers.{accepted};
-ghost use Rattle.share.specs.Plays.{after_call, answer_of, answers_of, spoken};
+ghost use Rattle.board.specs.Boards.{model};
+ghost use Rattle.share.specs.Plays.{after_call, answer_of, answers_of};
 ghost use Rattle.share.specs.Share.{Shares};
-ghost use Rattle.share.specs.declared.calls.Answer.TheVariants.{Done as IsDone, Started as IsStarted, Ticked as IsTicked, Advanced as IsAdvanced};
 ghost use Rattle.slots.specs.Steps.{fresh};
-ghost use Rattle.std.specs.Prelude.{◌≡◌, false, IfOk};
+ghost use Rattle.std.specs.Prelude.{◌≡◌, false, is_ok, IfOk};
 
-use crate::calls::{Answer, Call};
+use crate::calls::{Answer, Call, Outcome};
 use board::Board;
-use limits::Refusal;
 use queues::Queue;
 use release::ReleaseRule;
-use slots::{Advanced, Ticked};
 use std::alloc::{AllocError, Global};
-
-fn done(res: Result<(), Refusal>) -> Answer
-    ensures answer { result ≡ spoken (λ _. IsDone) res }
-{
-    match res {
-        Ok(()) => Answer::Done,
-        Err(why) => Answer::Refused(why),
-    }
-}
-
-fn started(res: Result<u64, Refusal>) -> Answer
-    ensures answer { result ≡ spoken IsStarted res }
-{
-    match res {
-        Ok(end) => Answer::Started(end),
-        Err(why) => Answer::Refused(why),
-    }
-}
-
-fn ticked(res: Result<Ticked, Refusal>) -> Answer
-    ensures answer { result ≡ spoken IsTicked res }
-{
-    match res {
-        Ok(tick) => Answer::Ticked(tick),
-        Err(why) => Answer::Refused(why),
-    }
-}
-
-fn advanced(res: Result<Advanced, Refusal>) -> Answer
-    ensures answer { result ≡ spoken IsAdvanced res }
-{
-    match res {
-        Ok(run) => Answer::Advanced(run),
-        Err(why) => Answer::Refused(why),
-    }
-}
 
 // Performs one call.
 pub fn perform<R: ReleaseRule, Q: Queue, C: Queue>(board: &mut Board<R, Q, C>, call: Call) -> Answer
-    requires { Agrees Q.Queue C.Queue board.old }
     ensures answer { result ≡ answer_of (R.ReleaseRule.amount board.old.rule) (model board.old) call }
     ensures after { model board.new ≡ after_call (R.ReleaseRule.amount board.old.rule) (model board.old) call }
-    ensures stays { accepted result ≡ false → board.new ≡ board.old }
+    ensures stays { is_ok result ≡ false → board.new ≡ board.old }
     ensures rule { board.new.rule ≡ board.old.rule }
-    ensures keeps { Agrees Q.Queue C.Queue board.new }
 {
     match call {
-        Call::Admit { server, cap } => done(board.admit(server, cap)),
-        Call::Leave { server } => done(board.leave(server)),
-        Call::Start {
-            server,
-            load,
-            limit,
-            period,
-        } => started(board.start(server, load, limit, period)),
-        Call::Tick => ticked(board.tick()),
-        Call::Advance { count } => advanced(board.advance(count)),
+        Call::Admit { server, cap } => board.admit(server, cap).map(|()| Outcome::Done),
+        Call::Leave { server } => board.leave(server).map(|()| Outcome::Done),
+        Call::Start { server, task } => board.start(server, task).map(Outcome::Started),
+        Call::Tick => board.tick().map(Outcome::Ticked),
+        Call::Advance { count } => board.advance(count).map(Outcome::Advanced),
     }
 }
 
@@ -82,7 +35,6 @@ pub fn play<R: ReleaseRule + Drop, Q: Queue + Drop, C: Queue + Drop>(
     calendar: C,
     calls: &[Call],
 ) -> Result<Vec<Answer>, AllocError>
-    requires { (Q.Queue.sound ready) × (C.Queue.sound calendar) }
     ensures answer { IfOk result (λ v. v.items ≡ answers_of (R.ReleaseRule.amount rule) fresh calls.now) }
     ensures law { IfOk result (λ v. Shares (R.ReleaseRule.amount rule) calls.now v.items) }
 {

@@ -1,6 +1,6 @@
-use crate::calls::{Answer, Call};
+use crate::calls::{Call, Outcome};
 use crate::playing::play;
-use limits::Refusal;
+use limits::{Refusal, Task};
 use queues::Row;
 use release::Late;
 use std::test::Fail;
@@ -15,9 +15,11 @@ fn ends_where_forecast(rt: HostRuntime) -> Result<(), Fail> {
         },
         Call::Start {
             server: 1,
-            load: 3,
-            limit: 2,
-            period: 4,
+            task: Task {
+                load: 3,
+                limit: 2,
+                period: 4,
+            },
         },
         Call::Advance { count: 9 },
         Call::Advance { count: 9 },
@@ -25,24 +27,22 @@ fn ends_where_forecast(rt: HostRuntime) -> Result<(), Fail> {
         Call::Leave { server: 1 },
         Call::Advance { count: 9 },
     ];
-    let Ok(answers) = play(rt.alloc(), Late, Row::new(), Row::new(), &calls) else {
-        return Err(Fail::new("no memory"));
-    };
+    let answers = play(rt.alloc(), Late, Row::new(), Row::new(), &calls)?;
     assert_eq!(rt; answers.len(), 7);
     match answers[1] {
-        Answer::Started(end) => assert_eq!(rt; end, 8),
+        Ok(Outcome::Started(end)) => assert_eq!(rt; end, 8),
         _ => return Err(Fail::new("not started")),
     }
     match answers[4] {
-        Answer::Ticked(tick) => assert_eq!(rt; tick.served, Some(1)),
+        Ok(Outcome::Ticked(tick)) => assert_eq!(rt; tick.served, Some(1)),
         _ => return Err(Fail::new("not ticked")),
     }
     match answers[5] {
-        Answer::Refused(why) => assert_eq!(rt; why, Refusal::ActionAtWork),
+        Err(why) => assert_eq!(rt; why, Refusal::ActionAtWork),
         _ => return Err(Fail::new("left while at work")),
     }
     match answers[6] {
-        Answer::Advanced(run) => {
+        Ok(Outcome::Advanced(run)) => {
             assert_eq!(rt; run.ticks, 3);
             assert_eq!(rt; run.sets.ended.word, 1);
             Ok(())

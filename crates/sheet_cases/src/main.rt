@@ -1,9 +1,10 @@
 // Plays stored plans and scripts, and prints the sheet of each.
 #![tactic(auto)]
 
-ghost use Rattle.std.specs.Prelude.{◌<◌, length, IfSome};
+ghost use Rattle.packs.specs.Left.{left_in};
+ghost use Rattle.std.specs.Iterator.{item_count};
 
-use packs::split_item;
+use packs::Items;
 use std::fs;
 use std::io::{BufWriter, Write};
 use timer_sheets::write_sheet;
@@ -15,25 +16,28 @@ struct Case<'a> {
     script: &'a [u8],
 }
 
-// The case at the front of a pack, and the pack after it.
-fn split_case(pack: &[u8]) -> Option<(Case<'_>, &[u8])>
-    ensures shorter { IfSome result (λ x. length x.1.now < length pack.now) }
-{
-    let (plan, after) = split_item(pack)?;
-    let (script, after) = split_item(after)?;
-    Some((Case { plan, script }, after))
+// The items of a pack by twos: each plan is followed by its script.
+#[derive(Drop)]
+struct Cases<'a>(Items<'a>);
+
+impl<'a> Iterator for Cases<'a> {
+    type Item = Case<'a>;
+
+    ghost remaining = { item_count (λ cases. left_in cases.0) };
+
+    fn next(&mut self) -> Option<Case<'a>> {
+        let plan = self.0.next()?;
+        let script = self.0.next()?;
+        Some(Case { plan, script })
+    }
 }
 
 fn run(rt: &HostRuntime) -> anyhow::Result<()> {
-    let bytes = fs::read(rt, "sheets.pack")?;
+    let pack = fs::read(rt, "sheets.pack")?;
     let mut out = BufWriter::new(rt.alloc(), rt.stdout())?;
-    let mut rest = bytes.as_slice();
-    let mut number: u64 = 0;
-    while let Some((case, after)) = split_case(rest) {
-        number = number.saturating_add(1);
+    for (number, case) in (1u64..).zip(Cases(Items::new(pack.as_slice()))) {
         writeln!(out, "case {number}")?;
         write_sheet(rt.alloc(), &mut out, case.plan, case.script)?;
-        rest = after;
     }
     out.flush()?;
     Ok(())

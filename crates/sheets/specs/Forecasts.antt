@@ -12,12 +12,16 @@ use Rattle.std.specs.List.{flat_map}
 
 -- 0 and the end, or the refusal and 0
 abbrev pub end_text : Result ℕ Refusal → List ℕ
-end_text (Ok end) = codes " 0 " ++ (decimal end ++ codes "\n")
-end_text (Err why) = codes " " ++ (decimal (number why) ++ codes " 0\n")
+end_text (Ok end) = codes " 0 " ++ decimal end
+end_text (Err why) = codes " " ++ (decimal (number why) ++ codes " 0")
+
+-- of an action of a server, without its line feed
+abbrev pub forecast_text : ℕ → Action → List ℕ
+forecast_text server a =
+    codes "forecast " ++ (decimal server ++ (codes " " ++ (decimal a.number ++ end_text (forecast_answer late (action 0 a.task.load a.task.limit a.task.period)))))
 
 abbrev pub forecast_line_of : ℕ → Action → List ℕ
-forecast_line_of server a =
-    codes "forecast " ++ (decimal server ++ (codes " " ++ (decimal a.number ++ end_text (forecast_answer late (action 0 a.load a.limit a.period)))))
+forecast_line_of server a = forecast_text server a ++ codes "\n"
 
 -- of each action of a server
 abbrev pub server_forecasts : Server → List ℕ

@@ -1,40 +1,60 @@
 // When each action of a plan ends if it starts at instant 0 under the late rule.
 ghost use Rattle.plans.specs.Reads.{servers_of};
-ghost use Rattle.sheets.specs.Forecasts.{forecast_line_of, forecast_lines, server_forecasts};
-ghost use Rattle.std.specs.Prelude.{◌≡◌, ◌++◌, IfOk, string_bytes, OnOk};
+ghost use Rattle.sheets.specs.Forecasts.{forecast_lines, forecast_text, server_forecasts};
+ghost use Rattle.std.specs.Prelude.{Some};
 
 use plans::{Action, Plan, Server};
 use release::{Late, forecast_end};
-use std::alloc::{AllocError, Global};
+use std::fmt;
 
 // Of an action of a server: 0 and the forecast end, or the refusal and 0.
-fn forecast_line(heap: Global, server: u8, action: &Action) -> Result<String, AllocError>
-    ensures answer { IfOk result (λ text. string_bytes text ≡ forecast_line_of server action.now) }
-{
-    match forecast_end(&Late, 0, action.load, action.limit, action.period) {
-        Ok(end) => format!(in heap; "forecast {server} {} 0 {end}\n", action.number),
-        Err(why) => format!(in heap; "forecast {server} {} {} 0\n", action.number, why.number()),
+#[derive(Drop)]
+struct Forecast {
+    server: u8,
+    action: Action,
+}
+
+impl fmt::Display for Forecast {
+    ghost output = { λ f. Some (forecast_text f.server f.action) };
+
+    fn fmt<W: fmt::Write>(&self, f: &mut fmt::Formatter<W>) -> fmt::Result {
+        let server = self.server;
+        let number = self.action.number;
+        match forecast_end(&Late, 0, self.action.task) {
+            Ok(end) => write!(f, "forecast {server} {number} 0 {end}"),
+            Err(why) => write!(f, "forecast {server} {number} {} 0", why.number()),
+        }
     }
 }
 
-fn forecast_server(heap: Global, out: &mut String, server: &Server) -> Result<(), AllocError>
-    ensures after { OnOk result (string_bytes out.new ≡ string_bytes out.old ++ server_forecasts server.now) }
-{
-    let actions = server.actions.as_slice();
-    for action in actions {
-        let text = forecast_line(heap, server.number, action)?;
-        out.push_str(text.as_str())?;
+// A line for each action of a server.
+#[derive(Drop)]
+struct OfServer<'a>(&'a Server);
+
+impl fmt::Display for OfServer<'_> {
+    ghost output = { λ s. Some (server_forecasts s.0.now) };
+
+    fn fmt<W: fmt::Write>(&self, f: &mut fmt::Formatter<W>) -> fmt::Result {
+        let server = self.0.number;
+        for action in &self.0.actions {
+            let action = *action;
+            writeln!(f, "{}", Forecast { server, action })?;
+        }
+        Ok(())
     }
-    Ok(())
 }
 
-// A line for each action, in plan order, after what is there.
-pub fn list_forecasts(heap: Global, out: &mut String, plan: &Plan) -> Result<(), AllocError>
-    ensures after { OnOk result (string_bytes out.new ≡ string_bytes out.old ++ forecast_lines (servers_of plan.now)) }
-{
-    let servers = plan.servers();
-    for server in servers {
-        forecast_server(heap, out, server)?;
+// A line for each action of a plan, in plan order.
+#[derive(Drop)]
+pub struct Forecasts<'a>(pub &'a Plan);
+
+impl fmt::Display for Forecasts<'_> {
+    ghost output = { λ p. Some (forecast_lines (servers_of p.0.now)) };
+
+    fn fmt<W: fmt::Write>(&self, f: &mut fmt::Formatter<W>) -> fmt::Result {
+        for server in self.0.servers() {
+            write!(f, "{}", OfServer(server))?;
+        }
+        Ok(())
     }
-    Ok(())
 }

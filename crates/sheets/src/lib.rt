@@ -2,30 +2,21 @@
 #![tactic(auto)]
 
 ghost use Rattle.scripts.specs.Dues.{time_order};
-ghost use Rattle.scripts.specs.Lines.{line_text_of, script_text};
+ghost use Rattle.scripts.specs.Lines.{script_text};
 ghost use Rattle.scripts.specs.Reads.{lines_of};
 ghost use Rattle.sheets.specs.Printed.{Printed, Told, listed};
 ghost use Rattle.std.specs.Prelude.{◌≡◌, ◌++◌, IfOk, string_bytes, OnOk};
 
-use crate::forecasts::list_forecasts;
+use crate::forecasts::Forecasts;
 use limits::ReadError;
 use plans::Plan;
-use scripts::{Agenda, Due, Line, Script};
+use scripts::{Agenda, Due, Script};
 use std::alloc::{AllocError, Global};
 
 mod forecasts;
 
-// The longest plan, in bytes: one byte more decides that bytes are no plan.
-pub const MOST_PLAN_BYTES: u64 = 16_384;
-
-// The longest script, in bytes: one byte more decides that bytes are no script.
-pub const MOST_SCRIPT_BYTES: u64 = 24_576;
-
-fn line_text(heap: Global, line: Line) -> Result<String, AllocError>
-    ensures answer { IfOk result (λ text. string_bytes text ≡ line_text_of line) }
-{
-    format!(in heap; "{line}\n")
-}
+pub use plans::MOST_PLAN_BYTES;
+pub use scripts::MOST_SCRIPT_BYTES;
 
 // The lines of a script in time order, after what is there.
 fn list_lines(heap: Global, out: &mut String, script: &Script) -> Result<(), AllocError>
@@ -39,8 +30,7 @@ fn list_lines(heap: Global, out: &mut String, script: &Script) -> Result<(), All
     let mut agenda = Agenda::over(places.as_mut_slice());
     let _ = agenda.load(lines);
     while let Some(line) = agenda.next() {
-        let text = line_text(heap, line)?;
-        out.push_str(text.as_str())?;
+        writeln!(out, "{line}")?;
     }
     Ok(())
 }
@@ -48,8 +38,7 @@ fn list_lines(heap: Global, out: &mut String, script: &Script) -> Result<(), All
 fn list(heap: Global, plan: &Plan, script: &Script) -> Result<String, AllocError>
     ensures answer { IfOk result (λ text. string_bytes text ≡ listed plan.now script.now) }
 {
-    let mut out = plan.listing(heap)?;
-    list_forecasts(heap, &mut out, plan)?;
+    let mut out = format!(in heap; "{plan}{}", Forecasts(plan))?;
     list_lines(heap, &mut out, script)?;
     Ok(out)
 }
@@ -58,10 +47,8 @@ fn list(heap: Global, plan: &Plan, script: &Script) -> Result<String, AllocError
 fn error_text(heap: Global, error: ReadError) -> Result<String, AllocError>
     ensures answer { Told error result }
 {
-    match error {
-        ReadError::Fault(fault) => format!(in heap; "{fault}\n"),
-        ReadError::NoMemory => Err(AllocError),
-    }
+    let fault = error.fault()?;
+    format!(in heap; "{fault}\n")
 }
 
 // What is printed of the bytes of a plan and a script: the first fault of the plan or else of the script, or else the

@@ -1,7 +1,8 @@
 -- The stretches that end at an instant are closed.
-use Rattle.std.proofs.Common.{◌≡◌, ℕ, ◌+◌, ◌-◌, ◌*◌, ◌≤◌, min, false, cond, ◌&&◌, eqb, ltb, leb, List, [], ◌∷◌, map, refl, ap, inl, inr, mul-add, arith}
+use Rattle.std.proofs.lemmas.Grind.{common_steps}
+use Rattle.std.proofs.Common.{◌≡◌, ℕ, ◌+◌, ◌-◌, ◌*◌, ◌≤◌, false, cond, eqb, leb, List, [], ◌∷◌, map, refl, ap, mul-add, arith}
 use Rattle.std.specs.List.{AllByRecursion}
-use Rattle.std.proofs.lemmas.Bool.{cond_both, cond-true, leb-true, le-leb, ltb-true, lt-ltb, both_ways, cases_lt, cases_Bool, eqb-true, eqb-false, and_parts, and_from, eq-eqb}
+use Rattle.std.proofs.lemmas.Bool.{cond_both, cond-true, le-leb, eqb-true}
 use Rattle.std.proofs.ByRecursion.{All-weaker}
 use Rattle.slots.specs.declared.slot.Work.{Work}
 use Rattle.slots.specs.declared.slot.Slot.{Slot}
@@ -13,11 +14,7 @@ use Rattle.slots.proofs.Totals.{total_balance, total_none}
 pub closed_fine : (t : ℕ) (s : Slot) → Fine t s → Fine (t + 1) (closed (t + 1) s)
 closed_fine t Absent h = tt
 closed_fine t (Resting c) h = h
-closed_fine t (Working w) h =
-    cond_both (eqb w.end (t + 1)) (cond (eqb w.left 0) (Resting w.cap) (Working (renewed w))) (Working w) (Fine (t + 1))
-    (λ e. let at = eqb-true w.end (t + 1) e in
-    cond_both (eqb w.left 0) (Resting w.cap) (Working (renewed w)) (Fine (t + 1)) (λ z. h.0) (λ z. omega arith))
-    (λ e. let off = eqb-false w.end (t + 1) e in omega arith)
+closed_fine t (Working w) h = grind (arith, common_steps)
 
 pub all_closed : (t : ℕ) (xs : List Slot) → AllByRecursion (Fine t) xs → AllByRecursion (Fine (t + 1)) (map (closed (t + 1)) xs)
 all_closed t [] a = tt
@@ -26,10 +23,7 @@ all_closed t (x ∷ xs) a = (closed_fine t x a.0, all_closed t xs a.1)
 pub closed_cap_of : (t : ℕ) (s : Slot) → cap_of (closed t s) ≡ cap_of s
 closed_cap_of t Absent = refl
 closed_cap_of t (Resting c) = refl
-closed_cap_of t (Working w) =
-    cond_both (eqb w.end t) (cond (eqb w.left 0) (Resting w.cap) (Working (renewed w))) (Working w) (λ s. cap_of s ≡ w.cap)
-    (λ e. cond_both (eqb w.left 0) (Resting w.cap) (Working (renewed w)) (λ s. cap_of s ≡ w.cap) (λ z. refl) (λ z. refl))
-    (λ e. refl)
+closed_cap_of t (Working w) = grind (arith, common_steps)
 
 -- the time from a to d, cut at a + b
 pub split : (c a b d : ℕ) → a + b ≤ d → c * (d - a) ≡ c * (d - (a + b)) + c * b
@@ -37,12 +31,7 @@ split c a b d h = let e : d - a ≡ (d - (a + b)) + b = omega arith in rw (e, mu
 
 -- a new stretch claims no more than the time that it covers
 renewed_demand : (t d : ℕ) (w : Work) → Fine t (Working w) → w.end ≤ d → demand d (Working (renewed w)) ≤ w.cap * (d - w.end)
-renewed_demand t d w h l =
-    cond_both (leb (w.end + w.period) d) (unit * min w.limit w.left + w.cap * (d - (w.end + w.period))) 0 (λ n. n ≤ w.cap * (d - w.end))
-    (λ e. let le = leb-true (w.end + w.period) d e in
-    let s = split w.cap w.end w.period d le in
-    omega arith)
-    (λ e. omega arith)
+renewed_demand t d w h l = grind (arith, common_steps)
 
 -- what a closed slot claims, against what its cap_of has to give
 pub closed_balance : (t d : ℕ) → t + 1 ≤ d → (s : Slot) → Fine t s → demand d (closed (t + 1) s) + busy s * (d - (t + 1)) ≤ demand d s + busy (closed (t + 1) s) * (d - (t + 1))
@@ -71,17 +60,7 @@ closed_bound t xs a b d l =
 on_time : (t : ℕ) (s : Slot) → demand t s ≡ 0 → late t s ≡ false
 on_time t Absent h = refl
 on_time t (Resting c) h = refl
-on_time t (Working w) h =
-    elim (cases_Bool (eqb w.end t && ltb 0 w.unserved)) [
-      | inl e ↦
-          let p = and_parts (eqb w.end t) (ltb 0 w.unserved) e in
-          let at = eqb-true w.end t p.0 in
-          let u = ltb-true 0 w.unserved p.1 in
-          let le : w.end ≤ t = omega arith in
-          let old = cond-true (leb w.end t) (unit * w.unserved + w.cap * (t - w.end)) 0 (le-leb w.end t le) in
-          absurd (omega arith)
-      | inr e ↦ e
-    ]
+on_time t (Working w) h = grind (arith, common_steps)
 
 pub none_late : (t : ℕ) (xs : List Slot) → Bounded t xs → AllByRecursion (λ s. late t s ≡ false) xs
 none_late t xs b =
@@ -92,8 +71,4 @@ none_late t xs b =
 
 -- service leaves nothing owed in a stretch that ends
 pub nothing_owed : (t : ℕ) (w : Work) → late t (Working w) ≡ false → w.end ≡ t → w.unserved ≡ 0
-nothing_owed t w h e =
-    elim (cases_lt 0 w.unserved) [
-      | inl p ↦ absurd (both_ways (late t (Working w)) h (and_from (eqb w.end t) (ltb 0 w.unserved) (eq-eqb w.end t e) (lt-ltb 0 w.unserved p)))
-      | inr p ↦ omega arith
-    ]
+nothing_owed t w h e = grind (arith, common_steps)

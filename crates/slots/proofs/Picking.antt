@@ -1,16 +1,16 @@
 -- The slot that `pick` names is the one to serve.
-use Rattle.std.proofs.Common.{◌≡◌, ℕ, zero, suc, ◌<◌, ◌≤◌, true, false, ◌&&◌, leb, List, [], ◌∷◌, get_or, Some, None, Option, refl, ap, inl, inr, arith}
+use Rattle.std.proofs.lemmas.Grind.{common_steps}
+use Rattle.std.proofs.Common.{◌≡◌, ℕ, zero, suc, ◌<◌, ◌≤◌, true, false, ◌&&◌, leb, List, [], ◌∷◌, get_or, Some, None, Option, refl, arith}
 use Rattle.std.specs.List.{AllByRecursion}
-use Rattle.std.proofs.lemmas.Bool.{cond_both, and_parts, and_cases, leb-true, leb-false, both_ways, cases_order}
-use Rattle.std.proofs.ByRecursion.{All-weaker, All-get_or}
+use Rattle.std.proofs.lemmas.Bool.{cond_both, and_parts, leb-true, both_ways}
+use Rattle.std.proofs.ByRecursion.{All-weaker}
 use Rattle.slots.specs.declared.slot.Slot.{Slot}
 use Rattle.slots.specs.declared.slot.Slot.TheVariants.{Absent}
 use Rattle.slots.specs.Slots.{pick, better, Picked, Chosen, waits, end_of}
 
 -- where the slot in front does not come first, it ends later, if it waits
 behind : (s : Slot) (n : ℕ) → (waits s && leb (end_of s) n) ≡ false → waits s ≡ true → n < end_of s
-behind s n e w =
-    elim (and_cases (waits s) (leb (end_of s) n) e) [ inl f ↦ absurd (both_ways (waits s) f w) | inr f ↦ leb-false (end_of s) n f ]
+behind s n e w = grind (arith, common_steps)
 
 step : (s : Slot) (ss : List Slot) (o : Option ℕ) → Picked ss o → Picked (s ∷ ss) (better s ss o)
 step s ss None h =
@@ -33,20 +33,16 @@ pick_tells (s ∷ ss) = step s ss (pick ss) (pick_tells ss)
 
 -- there is one slot to serve at the most
 clash : (xs : List Slot) (i j : ℕ) → Chosen xs i → Chosen xs j → i < j → ⊥
-clash xs i j p q l =
-    let a = q.first i l p.waiting in
-    let b = All-get_or (λ y. waits y ≡ true → end_of (get_or xs i Absent) ≤ end_of y) xs j Absent q.within p.least q.waiting in
-    omega arith
+clash xs i j p q l = grind (arith, common_steps)
 
 idle : (xs : List Slot) (i : ℕ) → AllByRecursion (λ y. waits y ≡ false) xs → Chosen xs i → ⊥
-idle xs i p q = both_ways (waits (get_or xs i Absent)) (All-get_or (λ y. waits y ≡ false) xs i Absent q.within p) q.waiting
+idle xs i p q = grind (arith, common_steps)
 
 picked_same : (xs : List Slot) (o o' : Option ℕ) → Picked xs o → Picked xs o' → o ≡ o'
 picked_same xs None None p q = refl
 picked_same xs None (Some j) p q = absurd (idle xs j p q)
 picked_same xs (Some i) None p q = absurd (idle xs i q p)
-picked_same xs (Some i) (Some j) p q =
-    elim (cases_order i j) [ inl e ↦ ap Some e | inr h ↦ elim h [ inl l ↦ absurd (clash xs i j p q l) | inr l ↦ absurd (clash xs j i q p l) ] ]
+picked_same xs (Some i) (Some j) p q = grind (arith, common_steps)
 
 pub picked_is : (xs : List Slot) (o : Option ℕ) → Picked xs o → o ≡ pick xs
 picked_is xs o p = picked_same xs o (pick xs) p (pick_tells xs)

@@ -1,8 +1,9 @@
 -- Lists of slots by place: sets of servers, and what a tick makes of one slot.
-use Rattle.std.proofs.Common.{◌≡◌, ℕ, zero, suc, ◌+◌, ◌-◌, ◌*◌, ◌/◌, ◌%◌, Bool, true, false, cond, eqb, List, [], ◌∷◌, map, length, get_or, set, Some, None, Option, sym, refl, ap, ◌∙◌, subst, ⊎_elim, arith}
+use Rattle.std.proofs.lemmas.Grind.{common_steps}
+use Rattle.std.proofs.Common.{◌≡◌, ℕ, zero, suc, ◌+◌, ◌*◌, ◌/◌, ◌%◌, Bool, true, false, cond, eqb, List, [], ◌∷◌, map, length, get_or, Some, None, Option, sym, refl, ap, ◌∙◌, arith}
 use Rattle.std.specs.List.{AllByRecursion}
-use Rattle.std.proofs.lemmas.List.{length-set, get_or-set_same, get_or-set_other}
-use Rattle.std.proofs.lemmas.Bool.{cond-true, cond-false, eqb-true, eq-eqb, ne_eqb, both_ways, cases_eq}
+use Rattle.std.proofs.lemmas.List.{length-set}
+use Rattle.std.proofs.lemmas.Bool.{eq-eqb, ne_eqb, both_ways}
 use Rattle.slots.specs.declared.slot.Slot.{Slot}
 use Rattle.slots.specs.declared.slot.Slot.TheVariants.{Absent, Resting, Working}
 use Rattle.slots.specs.Slots.{waits, pick, Picked, served, served_at}
@@ -47,22 +48,12 @@ length_serve xs (Some i) = length-set xs i (served (get_or xs i Absent))
 -- the slot i, once the tick has served
 pub served_here : (xs : List Slot) (o : Option ℕ) (i : ℕ) → Picked xs o → get_or (served_at xs o) i Absent ≡ cond (is_server (number o) (suc i)) (served (get_or xs i Absent)) (get_or xs i Absent)
 served_here xs None i p = refl
-served_here xs (Some j) i p =
-    ⊎_elim
-    (λ (e : j + 1 ≡ suc i).
-    let same : j ≡ i = omega arith in
-    let at : get_or (set xs j (served (get_or xs j Absent))) j Absent ≡ served (get_or xs j Absent) = get_or-set_same xs j (served (get_or xs j Absent)) Absent p.within in
-    subst (λ (n : ℕ). get_or (set xs j (served (get_or xs j Absent))) n Absent ≡ served (get_or xs n Absent)) same at ∙ sym (cond-true _ _ _ (eq-eqb (j + 1) (suc i) e)))
-    (λ (e : j + 1 ≡ suc i → ⊥). get_or-set_other xs j i (served (get_or xs j Absent)) Absent (λ (z : i ≡ j). e (omega arith)) ∙ sym (cond-false _ _ _ (ne_eqb (j + 1) (suc i) e)))
-    (cases_eq (j + 1) (suc i))
+served_here xs (Some j) i p = grind (arith, common_steps)
 
 -- who is served waits
 pub served_waits : (xs : List Slot) (o : Option ℕ) (i : ℕ) → Picked xs o → is_server (number o) (suc i) ≡ true → waits (get_or xs i Absent) ≡ true
 served_waits xs None i p h = absurd (both_ways false refl h)
-served_waits xs (Some j) i p h =
-    let e = eqb-true (j + 1) (suc i) h in
-    let same : j ≡ i = omega arith in
-    subst (λ (n : ℕ). waits (get_or xs n Absent) ≡ true) same p.waiting
+served_waits xs (Some j) i p h = grind (arith, common_steps)
 
 pub waits_works : (x : Slot) → waits x ≡ true → works x ≡ true
 waits_works Absent h = h
@@ -71,9 +62,7 @@ waits_works (Working w) h = refl
 
 picked_works : (m : Model) (o : Option ℕ) → Picked m.slots o → ServesAtWork m (number o)
 picked_works m None p = tt
-picked_works m (Some i) p =
-    let e : i ≡ i + 1 - 1 = omega arith in
-    subst (λ (n : ℕ). works (get_or m.slots n Absent) ≡ true) e (waits_works (get_or m.slots i Absent) p.waiting)
+picked_works m (Some i) p = grind (arith, common_steps)
 
 -- and has an action at work
 pub serves_at_work_lem : (m : Model) → ServesAtWork m (ticked m).served

@@ -1,8 +1,9 @@
 -- One tick of service.
-use Rattle.std.proofs.Common.{◌≡◌, ℕ, suc, ◌+◌, ◌-◌, ◌*◌, ◌<◌, ◌≤◌, true, false, leb, List, [], ◌∷◌, get_or, Some, None, Option, sym, refl, ◌∙◌, inl, inr, mul-le-mul_left, mul-suc, arith}
+use Rattle.std.proofs.lemmas.Grind.{common_steps}
+use Rattle.std.proofs.Common.{◌≡◌, ℕ, suc, ◌+◌, ◌-◌, ◌*◌, ◌<◌, ◌≤◌, true, false, List, [], ◌∷◌, get_or, Some, None, Option, sym, refl, ◌∙◌, inl, inr, mul-suc, arith}
 use Rattle.std.specs.List.{AllByRecursion}
-use Rattle.std.proofs.lemmas.Bool.{cond_both, cond-true, cond-false, leb-true, le-leb, lt-leb, ltb-true, lt-ltb, both_ways, cases_lt}
-use Rattle.std.proofs.ByRecursion.{All-weaker, All-set, All-get_or}
+use Rattle.std.proofs.lemmas.Bool.{both_ways, cases_lt}
+use Rattle.std.proofs.ByRecursion.{All-weaker}
 use Rattle.slots.specs.declared.slot.Slot.{Slot}
 use Rattle.slots.specs.declared.slot.Slot.TheVariants.{Absent, Resting, Working}
 use Rattle.limits.specs.Ranges.{unit}
@@ -29,18 +30,13 @@ served_fine t (Working w) h = omega arith
 pub served_pays : (d : ℕ) (s : Slot) → waits s ≡ true → end_of s ≤ d → demand d (served s) + unit ≡ demand d s
 served_pays d Absent e h = absurd (both_ways false refl e)
 served_pays d (Resting c) e h = absurd (both_ways false refl e)
-served_pays d (Working w) e h =
-    let b = le-leb w.end d h in
-    let u = ltb-true 0 w.unserved e in
-    let p = cond-true (leb w.end d) (unit * (w.unserved - 1) + w.cap * (d - w.end)) 0 b in
-    let q = cond-true (leb w.end d) (unit * w.unserved + w.cap * (d - w.end)) 0 b in
-    omega arith
+served_pays d (Working w) e h = grind (arith, common_steps)
 
 -- before it, it claims nothing
 pub early : (d : ℕ) (s : Slot) → d < end_of s → demand d s ≡ 0
 early d Absent h = refl
 early d (Resting c) h = refl
-early d (Working w) h = cond-false (leb w.end d) (unit * w.unserved + w.cap * (d - w.end)) 0 (lt-leb w.end d h)
+early d (Working w) h = grind (arith, common_steps)
 
 pub served_end : (s : Slot) → end_of (served s) ≡ end_of s
 served_end Absent = refl
@@ -51,14 +47,7 @@ served_end (Working w) = refl
 quiet : (t d : ℕ) (s : Slot) → Fine t s × (waits s ≡ true → d < end_of s) → demand d s ≤ busy s * (d - (t + 1))
 quiet t d Absent h = omega arith
 quiet t d (Resting c) h = omega arith
-quiet t d (Working w) h =
-    cond_both (leb w.end d) (unit * w.unserved + w.cap * (d - w.end)) 0 (λ n. n ≤ w.cap * (d - (t + 1)))
-    (λ e. let l = leb-true w.end d e in
-    let u : w.unserved ≡ 0 = elim (cases_lt 0 w.unserved) [ inl p ↦ absurd (let q = h.1 (lt-ltb 0 w.unserved p) in omega arith) | inr p ↦ omega arith ] in
-    let f = h.0.1 in
-    let less : d - w.end ≤ d - (t + 1) = omega arith in
-    omega (arith, mul-le-mul_left w.cap less))
-    (λ e. omega arith)
+quiet t d (Working w) h = grind (arith, common_steps)
 
 busy_le_cap_of : (xs : List Slot) → total busy xs ≤ total cap_of xs
 busy_le_cap_of [] = omega arith
@@ -99,7 +88,7 @@ serve_bound t xs s = served_bound t xs (pick xs) (pick_tells xs) s
 
 pub served_each : (t : ℕ) (xs : List Slot) (o : Option ℕ) → Picked xs o → AllByRecursion (Fine t) xs → AllByRecursion (Fine t) (served_at xs o)
 served_each t xs None p a = a
-served_each t xs (Some i) p a = All-set (Fine t) xs i (served (get_or xs i Absent)) (served_fine t (get_or xs i Absent) (All-get_or (Fine t) xs i Absent p.within a)) a
+served_each t xs (Some i) p a = grind (arith, common_steps)
 
 pub served_caps : (xs : List Slot) (o : Option ℕ) → Picked xs o → total cap_of (served_at xs o) ≡ total cap_of xs
 served_caps xs None p = refl

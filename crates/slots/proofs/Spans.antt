@@ -1,10 +1,11 @@
 -- The span of an advance is the largest number of ticks that it may make.
+use Rattle.std.proofs.lemmas.Grind.{common_steps}
 use Rattle.std.proofs.Common.{◌≡◌, ℕ, zero, suc, ◌+◌, ◌-◌, ◌<◌, ◌≤◌, min, Bool, true, false, cond, not, ◌&&◌, eqb, ltb, List, [], ◌∷◌, map, get_or, set, Some, None, Option, sym, refl, ap, ◌∙◌, subst, ⊎_elim, add-zero, arith, set-set}
 use lib.Seq.{set-get_or}
 use Rattle.std.specs.List.{AllByRecursion}
 use Rattle.std.proofs.lemmas.List.{length-set, get_or-set_same, get_or-set_other}
 use Rattle.std.proofs.ByRecursion.{All-weaker, All-set, All-from_get_or}
-use Rattle.std.proofs.lemmas.Bool.{cond_both, cond-true, cond-false, and_from, and_left, eq-eqb, ltb-true, lt-ltb, ne_eqb, both_ways, cases_Bool, cases_lt, not_from_false}
+use Rattle.std.proofs.lemmas.Bool.{cond_both, cond-true, cond-false, and_from, eq-eqb, ltb-true, lt-ltb, ne_eqb, both_ways, cases_Bool, cases_lt, not_from_false}
 use Rattle.slots.specs.declared.slot.Work.{Work}
 use Rattle.slots.specs.declared.slot.Slot.{Slot}
 use Rattle.slots.specs.declared.slot.Slot.TheVariants.{Absent, Resting, Working}
@@ -14,7 +15,7 @@ use Rattle.slots.proofs.Service.{served_end}
 use Rattle.slots.proofs.Ticking.{ticking}
 use Rattle.limits.specs.Ranges.{horizon}
 use Rattle.bits.proofs.Bits.{bit_of_zero}
-use Rattle.slots.specs.Marks.{owed, served_by}
+use Rattle.slots.specs.Marks.{owed, served_by, served_for}
 use Rattle.slots.specs.Members.{has, is_server}
 use Rattle.slots.specs.Steps.{Model, ends, goes_on, mask, moved, number, ticked}
 use Rattle.slots.specs.Advances.{Allowed, Largest, nobody, owing, span, turns, until_end_of}
@@ -44,9 +45,7 @@ map_closed t (x ∷ xs) a = let p = far_closed t x a.0 in let q = map_closed t x
 far_none : (t : ℕ) (x : Slot) → Far (t + 2) x → (goes_on (t + 1) x ≡ false) × (ends (t + 1) x ≡ false) × (late (t + 1) x ≡ false)
 far_none t Absent h = (refl, refl, refl)
 far_none t (Resting c) h = (refl, refl, refl)
-far_none t (Working w) h =
-    let n = ne_eqb w.end (t + 1) (omega arith) in
-    (and_left (eqb w.end (t + 1)) (not (eqb w.left 0)) n, and_left (eqb w.end (t + 1)) (eqb w.left 0) n, and_left (eqb w.end (t + 1)) (ltb 0 w.unserved) n)
+far_none t (Working w) h = grind (arith, common_steps)
 
 far_served : (e : ℕ) (x : Slot) → Far e x → Far e (served x)
 far_served e Absent h = h
@@ -60,7 +59,7 @@ far_weaker e f l (Working w) h = omega arith
 
 far_serve : (e : ℕ) (xs : List Slot) (o : Option ℕ) → AllByRecursion (Far e) xs → AllByRecursion (Far e) (served_at xs o)
 far_serve e xs None a = a
-far_serve e xs (Some i) a = All-set (Far e) xs i (served (get_or xs i Absent)) (far_served e (get_or xs i Absent) (all_at (Far e) tt xs a i)) a
+far_serve e xs (Some i) a = grind (arith, common_steps)
 
 served_less : (x : Slot) → owed (served x) ≡ owed x - 1
 served_less Absent = refl
@@ -140,32 +139,21 @@ calm_run (suc j) b m o c =
     let e : suc j + suc b ≡ j + suc (suc b) = omega arith in
     calm_next (turns j m) o b (calm_run j (suc b) m o (subst (Calm m o) e c))
 
--- the slots once the slot o has been served for j ticks
-abbrev pub served_for : ℕ → List Slot → Option ℕ → List Slot
-served_for j xs None = xs
-served_for j xs (Some i) = set xs i (served_by j (get_or xs i Absent))
-
 served_none : (x : Slot) → served_by 0 x ≡ x
 served_none Absent = refl
 served_none (Resting c) = refl
-served_none (Working w) =
-    let a : w.unserved - 0 ≡ w.unserved = omega arith in
-    let b : w.left - 0 ≡ w.left = omega arith in
-    λ i. Working (record { cap = w.cap; end = w.end; unserved = a i; left = b i; limit = w.limit; period = w.period })
+served_none (Working w) = grind (arith, common_steps)
 
 served_more : (j : ℕ) (x : Slot) → served (served_by j x) ≡ served_by (suc j) x
 served_more j Absent = refl
 served_more j (Resting c) = refl
-served_more j (Working w) =
-    let a : w.unserved - j - 1 ≡ w.unserved - suc j = omega arith in
-    let b : w.left - j - 1 ≡ w.left - suc j = omega arith in
-    λ i. Working (record { cap = w.cap; end = w.end; unserved = a i; left = b i; limit = w.limit; period = w.period })
+served_more j (Working w) = grind (arith, common_steps)
 
 for_none : (xs : List Slot) (o : Option ℕ) → served_for 0 xs o ≡ xs
 for_none xs None = refl
 for_none xs (Some i) = ap (set xs i) (served_none (get_or xs i Absent)) ∙ set-get_or xs i Absent
 
-for_more : (j : ℕ) (xs : List Slot) (o : Option ℕ) → Picked xs o → served_at (served_for j xs o) o ≡ served_for (suc j) xs o
+pub for_more : (j : ℕ) (xs : List Slot) (o : Option ℕ) → Picked xs o → served_at (served_for j xs o) o ≡ served_for (suc j) xs o
 for_more j xs None p = refl
 for_more j xs (Some i) p =
     let x = get_or xs i Absent in
@@ -355,7 +343,7 @@ module _ (m : Model) (n k : ℕ) (s : Sound m.clock m.slots) (a : Allowed m n k)
     ends_late = subst (Far (m.clock + k)) is (all_at (Far (m.clock + k)) tt m.slots spread i)
 
     hit : (j : ℕ) → j < k → is_server (number (pick (turns j m).slots)) (suc i) ≡ true
-    hit j h = ap (λ (x : Option ℕ). is_server x (suc i)) (a.same j h ∙ ap number o) ∙ eq-eqb (i + 1) (suc i) (omega arith)
+    hit j h = grind (arith, common_steps)
 
     spent : (j : ℕ) → j ≤ w.unserved → (v : Work) × (get_or (turns j m).slots i Absent ≡ Working v) × (v.end ≡ w.end) × (v.unserved + j ≡ w.unserved)
     spent zero h = (w, is, refl, omega arith)

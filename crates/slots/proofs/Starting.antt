@@ -1,6 +1,6 @@
 -- A slot starts, is admitted or leaves.
-use Rattle.std.proofs.Common.{◌≡◌, ℕ, ◌+◌, ◌-◌, ◌*◌, ◌<◌, ◌≤◌, leb, List, length, get_or, set, refl, ap, mul-add, arith}
-use Rattle.std.proofs.lemmas.Bool.{cond_both, leb-true}
+use Rattle.std.proofs.lemmas.Grind.{common_steps}
+use Rattle.std.proofs.Common.{◌≡◌, ℕ, ◌+◌, ◌-◌, ◌*◌, ◌<◌, ◌≤◌, List, length, get_or, set, refl, ap, mul-add, arith}
 use Rattle.std.proofs.ByRecursion.{All-set, All-get_or}
 use Rattle.slots.specs.declared.slot.Work.{Work}
 use Rattle.slots.specs.declared.slot.Slot.{Slot}
@@ -15,13 +15,7 @@ cut c a b d h l = let e : d - a ≡ (d - b) + (b - a) = omega arith in rw (e, mu
 
 -- a first stretch that fits claims no more than its cap_of of the time from t
 first_demand : (t d : ℕ) (w : Work) → FitsIn t w → t ≤ d → demand d (Working w) ≤ w.cap * (d - t)
-first_demand t d w f l =
-    cond_both (leb w.end d) (unit * w.unserved + w.cap * (d - w.end)) 0 (λ n. n ≤ w.cap * (d - t))
-    (λ e. let le = leb-true w.end d e in
-    let later = f.later in
-    let c = cut w.cap t w.end d (omega arith) le in
-    omega arith)
-    (λ e. omega arith)
+first_demand t d w f l = grind (arith, common_steps)
 
 module _ (t : ℕ) (xs : List Slot) (i : ℕ) (within : i < length xs) (s : Sound t xs) where
   pub starting : (w : Work) → get_or xs i Absent ≡ Resting w.cap → FitsIn t w → Sound t (set xs i (Working w))

@@ -1,5 +1,5 @@
 -- What the methods of a slot do and answer.
-use Rattle.std.specs.Prelude.{ℕ, ◌+◌, ◌-◌, ◌^◌, ◌<◌, ◌≤◌, cond, ◌==◌, nat_lt}
+use Rattle.std.specs.Prelude.{ℕ, ◌+◌, ◌-◌, ◌^◌, ◌<◌, cond, List, Some, None, Option, ◌==◌, nat_lt, slice_index_or, slice_set}
 use Rattle.slots.specs.declared.slot.Slot.{Slot}
 use Rattle.slots.specs.declared.slot.Slot.TheVariants.{Absent, Resting, Working}
 use Rattle.slots.specs.declared.slot.Closed.{Closed}
@@ -11,17 +11,16 @@ served_by k Absent = Absent
 served_by k (Resting c) = Resting c
 served_by k (Working w) = Working (record { cap = w.cap; end = w.end; unserved = w.unserved - k; left = w.left - k; limit = w.limit; period = w.period })
 
+-- the slots once the slot to serve, if there is one, has been served for k ticks
+abbrev pub served_for : ℕ → List Slot → Option ℕ → List Slot
+served_for k xs None = xs
+served_for k xs (Some i) = slice_set xs i (served_by k (slice_index_or xs i Absent))
+
 -- what is unserved of the present stretch
 abbrev pub owed : Slot → ℕ
 owed Absent = 0
 owed (Resting c) = 0
 owed (Working w) = w.unserved
-
--- k ticks can be taken from the slot
-abbrev pub Room : ℕ → Slot → Type 0
-Room k Absent = Unit {0}
-Room k (Resting c) = Unit {0}
-Room k (Working w) = (k ≤ w.unserved) × (w.unserved ≤ w.left)
 
 -- the next stretch ends before the clock does
 abbrev pub Ample : Slot → Type 0

@@ -5,6 +5,7 @@ mod figures;
 mod sets;
 mod slot;
 
+pub use bits::ServerSet;
 pub use figures::figures_hold;
-pub use sets::{Advanced, ServerSet, Sets, Ticked};
+pub use sets::{Advanced, Sets, Ticked};
 pub use slot::{Closed, Slot, Work};

@@ -1,10 +1,5 @@
-// Sets of servers, and what a tick and an advance answer.
-
-// A set of servers: server s is in it where bit s - 1 of the word is set.
-#[derive(Clone, Copy, PartialEq, Eq, Debug)]
-pub struct ServerSet {
-    pub word: u64,
-}
+// What a tick and an advance answer.
+use bits::ServerSet;
 
 // The servers whose next stretch began, whose action ended, and whose stretch ended unserved.
 #[derive(Clone, Copy, PartialEq, Eq, Debug)]

@@ -1,5 +1,5 @@
 -- The calls that a sheet shows were played on a board.
-use Rattle.std.proofs.Common.{◌≡◌, ℕ, zero, suc, ◌+◌, ◌-◌, ◌<◌, ◌≤◌, true, false, ltb, List, [], ◌∷◌, ◌++◌, Some, None, Option, sym, refl, ap, ◌∙◌, subst, ⊎_elim, arith}
+use Rattle.std.proofs.Common.{◌≡◌, ℕ, zero, suc, ◌+◌, ◌-◌, ◌<◌, ◌≤◌, true, false, ltb, List, [], ◌∷◌, ◌++◌, Some, None, Ok, Option, sym, refl, ap, ◌∙◌, subst, ⊎_elim, arith}
 use Rattle.board.proofs.Judged.{advance_accepted}
 use Rattle.limits.specs.Ranges.{horizon}
 use Rattle.limits.specs.declared.refusal.Refusal.{Refusal}
@@ -13,25 +13,22 @@ use Rattle.scripts.specs.declared.line.Command.{Command}
 use Rattle.scripts.specs.declared.line.Command.TheVariants.{Admit, Leave, Start, Wait}
 use Rattle.scripts.specs.declared.line.Line.{Line}
 use Rattle.share.proofs.Keeping.{Ran, kept, ran_sound}
+use Rattle.share.specs.Answers.{Answer}
 use Rattle.share.specs.Plays.{after_call, answer_of, spoken}
 use Rattle.share.specs.Share.{Kept}
 use Rattle.share.specs.Traces.{Trace, nothing}
-use Rattle.share.specs.declared.calls.Answer.TheVariants.{Done, Started, Advanced}
 use Rattle.share.specs.declared.calls.Call.TheVariants.{Admit as CallAdmit, Start as CallStart, Advance}
+use Rattle.share.specs.declared.calls.Outcome.TheVariants.{Done, Started, Advanced}
 use Rattle.timer_sheets.proofs.Lines.{Well, strides, turns_add}
 use Rattle.timer_sheets.specs.Calls.{call_shown, said_too, shown_after}
 use Rattle.timer_sheets.specs.Sheets.{from_plan, in_plan, left_by, next_run, runs, sheet_from, shown, stride}
+use Rattle.timer_sheets.specs.Timely.{Timely}
 use Rattle.timer_sheets.specs.declared.line.SheetLine.{SheetLine}
 use Rattle.slots.proofs.Spans.{largest, turns_clock}
 use Rattle.slots.specs.Advances.{Allowed, advanced, leapt, span, turns}
 use Rattle.slots.specs.Steps.{Model, admit_after, admit_refusal, arriving, changed, fresh, judged, start_after, start_answer}
 use Rattle.std.proofs.lemmas.Bool.{cases_Bool, cond-false, cond-true, ltb-false, ltb-true}
 use Rattle.std.specs.Option.{option_map, option_to_list}
-use Rattle.std.specs.List.{AllByRecursion}
-
--- the lines lie by the horizon
-abbrev pub Timely : List Line → Type 0
-Timely ls = AllByRecursion (λ l. l.instant ≤ horizon) ls
 
 shown_append : (p : Plan) (q : Trace) (xs ys : List SheetLine) → shown_after p q (xs ++ ys) ≡ shown_after p (shown_after p q xs) ys
 shown_append p q [] ys = refl
@@ -61,8 +58,8 @@ module _ (rule : Meaning) (law : WithinShare rule) (p : Plan) where
       let most = s.1 in
       let again : span m k ≡ k = span_again m n w (omega arith) (omega arith) in
       let ok = advance_accepted m k (omega arith) (omega arith) (omega arith) in
-      let answer : Advanced (leapt m k) ≡ answer_of rule m (Advance k) =
-      ap (λ (j : ℕ). Advanced (leapt m j)) (sym again) ∙ sym (ap (λ (v : Option Refusal). spoken Advanced (judged v (advanced m k))) ok) in
+      let answer : ◌≡◌ {A = Answer} (Ok (Advanced (leapt m k))) (answer_of rule m (Advance k)) =
+      ap (λ (j : ℕ). Ok (Advanced (leapt m j))) (sym again) ∙ sym (ap (λ (v : Option Refusal). spoken Advanced (judged v (advanced m k))) ok) in
       let after : turns k m ≡ after_call rule m (Advance k) =
       ap (λ (j : ℕ). turns j m) (sym again) ∙ sym (ap (λ (v : Option Refusal). changed v m (turns (span m k) m)) ok) in
       (m, r, answer, after)
@@ -99,7 +96,7 @@ module _ (rule : Meaning) (law : WithinShare rule) (p : Plan) where
   admit_ran q m s r (Some v) = (m, r, refl, refl)
 
   start_ran : (q : Trace) (m : Model) (s : ℕ) → Ran rule q m → (o : Option PlanAction) →
-      Ran rule (said_too q (option_map (λ k. (CallStart s k.load k.limit k.period, spoken Started (in_plan o (λ k. start_answer rule m s (arriving m k.load k.limit k.period))))) o)) (from_plan m o (λ k. start_after rule m s (arriving m k.load k.limit k.period)))
+      Ran rule (said_too q (option_map (λ k. (CallStart s k.task, spoken Started (in_plan o (λ k. start_answer rule m s (arriving m k.task.load k.task.limit k.task.period))))) o)) (from_plan m o (λ k. start_after rule m s (arriving m k.task.load k.task.limit k.task.period)))
   start_ran q m s r None = r
   start_ran q m s r (Some k) = (m, r, refl, refl)
 

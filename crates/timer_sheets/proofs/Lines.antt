@@ -1,10 +1,11 @@
 -- The lines of the sheet, one after another.
-use Rattle.std.proofs.Common.{◌≡◌, ℕ, zero, suc, ◌+◌, ◌-◌, ◌<◌, ◌≤◌, true, false, cond, ltb, List, [], ◌∷◌, ◌++◌, sym, refl, ap, ◌∙◌, ⊎_elim, arith}
+use Rattle.std.proofs.Common.{◌≡◌, ℕ, zero, suc, ◌+◌, ◌-◌, ◌<◌, ◌≤◌, true, false, cond, ltb, List, [], ◌∷◌, ◌++◌, Some, None, Option, sym, refl, ap, ◌∙◌, ⊎_elim, arith}
 use Rattle.limits.specs.Ranges.{horizon}
 use Rattle.plans.specs.declared.plan.Plan.{Plan}
 use Rattle.release.specs.Actions.{Meaning}
 use Rattle.scripts.specs.declared.line.Line.{Line}
 use Rattle.timer_sheets.specs.Sheets.{left_by, next_run, runs, sheet_from, shown, stride}
+use Rattle.timer_sheets.specs.Timely.{Timely}
 use Rattle.timer_sheets.specs.declared.line.SheetLine.{SheetLine}
 use Rattle.slots.proofs.Spans.{spans, turns_clock}
 use Rattle.slots.proofs.Ticking.{ticking}
@@ -52,7 +53,7 @@ module _ (rule : Meaning) (p : Plan) (m : Model) (l : Line) (ls : List Line) whe
   Called z = option_to_list (shown rule p z l.instant l.command) ++ sheet_from rule p (left_by rule p z l.command) ls
 
   -- before the line's instant a run comes first
-  pub run_first : Well m → m.clock < l.instant → l.instant ≤ horizon → sheet_from rule p m (l ∷ ls) ≡ next_run m l.instant ∷ sheet_from rule p (turns (stride m l.instant) m) (l ∷ ls)
+  run_first : Well m → m.clock < l.instant → l.instant ≤ horizon → sheet_from rule p m (l ∷ ls) ≡ next_run m l.instant ∷ sheet_from rule p (turns (stride m l.instant) m) (l ∷ ls)
   run_first w early h =
       let t = l.instant in
       let k = stride m t in
@@ -71,3 +72,14 @@ module _ (rule : Meaning) (p : Plan) (m : Model) (l : Line) (ls : List Line) whe
       let there : turns (t - z.clock) z ≡ turns (t - m.clock) m = turns_add (t - z.clock) k m ∙ ap (λ (n : ℕ). turns n m) all in
       ap (λ (x : List SheetLine). x ++ Called (turns (t - m.clock) m)) first
       ∙ ap (λ (y : Model). next_run m t ∷ (runs (t - z.clock) t z ++ Called y)) (sym there)
+
+-- Before the instant of the line that is awaited a run comes first. The rule is the same after it.
+pub run_comes : (rule again : Meaning) (p : Plan) (m after : Model) (awaited : Option Line) (l : Line) (ls : List Line) (clock : ℕ) (run : SheetLine) →
+    Well m → Timely (option_to_list awaited ++ ls) → awaited ≡ Some l → clock ≡ m.clock → clock < l.instant → run ≡ next_run m l.instant → after ≡ turns (stride m l.instant) m → again ≡ rule →
+    sheet_from rule p m (option_to_list awaited ++ ls) ≡ run ∷ sheet_from again p after (option_to_list awaited ++ ls)
+run_comes rule again p m after None l ls clock run w t e c h is left same = absurd (cc)
+run_comes rule again p m after (Some k) l ls clock run w t e c h is left same =
+    let here : k ≡ l = cc in
+    let at : k.instant ≡ l.instant = ap (λ (x : Line). x.instant) here in
+    let first = run_first rule p m k ls w (omega arith) t.0 in
+    cc

@@ -29,14 +29,14 @@ from_plan m (Some x) left = left x
 abbrev pub shown : Meaning → Plan → Model → ℕ → Command → Option SheetLine
 shown rule p m t (Admit s) = Some (Admits t s (in_plan (server_of p s) (λ v. judged (admit_refusal m s v.cap) tt)))
 shown rule p m t (Leave s) = Some (Leaves t s (judged (leave_refusal m s) tt))
-shown rule p m t (Start s a) = Some (Starts t s a (in_plan (action_of p s a) (λ k. start_answer rule m s (arriving m k.load k.limit k.period))))
+shown rule p m t (Start s a) = Some (Starts t s a (in_plan (action_of p s a) (λ k. start_answer rule m s (arriving m k.task.load k.task.limit k.task.period))))
 shown rule p m t Wait = None
 
 -- what the command leaves of the board m
 abbrev pub left_by : Meaning → Plan → Model → Command → Model
 left_by rule p m (Admit s) = from_plan m (server_of p s) (λ v. admit_after m s v.cap)
 left_by rule p m (Leave s) = leave_after m s
-left_by rule p m (Start s a) = from_plan m (action_of p s a) (λ k. start_after rule m s (arriving m k.load k.limit k.period))
+left_by rule p m (Start s a) = from_plan m (action_of p s a) (λ k. start_after rule m s (arriving m k.task.load k.task.limit k.task.period))
 left_by rule p m Wait = m
 
 -- how many ticks the next run towards the instant t makes: those of an advance by the ticks left

@@ -10,11 +10,7 @@ mod text;
 
 pub use line::SheetLine;
 pub use output::{write_lines, write_sheet};
+pub use plans::MOST_PLAN_BYTES;
 pub use run::Run;
+pub use scripts::MOST_SCRIPT_BYTES;
 pub use text::{push_line, push_lines, push_sheet};
-
-// The longest plan, in bytes: one byte more decides that bytes are no plan.
-pub const MOST_PLAN_BYTES: u64 = 16_384;
-
-// The longest script, in bytes: one byte more decides that bytes are no script.
-pub const MOST_SCRIPT_BYTES: u64 = 24_576;

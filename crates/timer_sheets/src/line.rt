@@ -1,8 +1,8 @@
 // The lines of the sheet.
-ghost use Rattle.timer_sheets.specs.Shown.{end_or_zero_of, refusal_number_of, server_or_zero_of, shown_line};
-ghost use Rattle.std.specs.Prelude.{◌≡◌, Some};
+ghost use Rattle.timer_sheets.specs.Shown.{shown_line};
+ghost use Rattle.std.specs.Prelude.{Some};
 
-use limits::Refusal;
+use limits::{Refusal, refusal_number};
 use slots::Advanced;
 use std::fmt;
 
@@ -29,36 +29,6 @@ pub enum SheetLine {
         instant: u64,
         run: Advanced,
     },
-}
-
-// The number of the refusal, 0 if there is none.
-fn refusal_number<T>(answer: &Result<T, Refusal>) -> u8
-    ensures answer { result ≡ refusal_number_of answer.now }
-{
-    match answer {
-        Ok(_) => 0,
-        Err(why) => why.number(),
-    }
-}
-
-// The forecast end, 0 if the start was refused.
-fn end_or_zero(answer: Result<u64, Refusal>) -> u64
-    ensures answer { result ≡ end_or_zero_of answer }
-{
-    match answer {
-        Ok(end) => end,
-        Err(_) => 0,
-    }
-}
-
-// The server that was served, 0 if there was none.
-fn server_or_zero(served: Option<u8>) -> u8
-    ensures answer { result ≡ server_or_zero_of served }
-{
-    match served {
-        Some(server) => server,
-        None => 0,
-    }
 }
 
 // Parts joined by one space; the sets as sums of 2^(s - 1) over their servers s.
@@ -90,11 +60,11 @@ impl fmt::Display for SheetLine {
                 answer,
             } => {
                 let refusal = refusal_number(&answer);
-                let end = end_or_zero(answer);
+                let end = answer.unwrap_or(0);
                 write!(f, "{instant} S {server} {action} {refusal} {end}")
             }
             SheetLine::Run { instant, run } => {
-                let server = server_or_zero(run.served);
+                let server = run.served.unwrap_or(0);
                 let ticks = run.ticks;
                 let released = run.sets.released.word;
                 let ended = run.sets.ended.word;

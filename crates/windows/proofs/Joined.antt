@@ -1,5 +1,6 @@
 -- What two meanings say together.
 use Rattle.std.proofs.Common.{◌≡◌, ℕ, ◌<◌, ◌≤◌, Bool, true, false, cond, is_some, is_ok, Some, None, Ok, Err, Option, Result, sym, refl, ap, ◌∙◌, inl, inr, arith}
+use Rattle.limits.specs.Ranges.{horizon, servers}
 use Rattle.queues.proofs.Known.{known}
 use Rattle.queues.proofs.Ranks.{order_false, order_true}
 use Rattle.queues.specs.Dues.{Due, First, Put, Taken, Within}
@@ -165,6 +166,23 @@ module _ (f g : Due) where
     | inl u ↦ absurd (clash (ap f' u ∙ t.0) h)
     | inr u ↦ a k v (sym (t.1 k u) ∙ h)
   ]
+
+-- only servers have entries still
+pub within_put : (f g : Due) (s t : ℕ) → 1 ≤ s → s ≤ servers → t ≤ horizon → Within f → Put f g s t → Within g
+within_put f g s t lo hi early h p k u e = elim (cases_eq k s) [
+  | inl same ↦
+      let at-t : Some t ≡ Some u = sym p.0 ∙ ap g (sym same) ∙ e in
+      let when : t ≡ u = cc in
+      (omega arith, omega arith, omega arith)
+  | inr other ↦ h k u (sym (p.1 k other) ∙ e)
+]
+
+pub within_taken : (f g : Due) (r : Option Entry) → Within f → Taken f g r → Within g
+within_taken f g None h t k u e = h k u (sym (t k) ∙ e)
+within_taken f g (Some x) h t k u e = elim (cases_eq k x.server) [
+  | inl same ↦ absurd (clash (ap g same ∙ t.0) e)
+  | inr other ↦ h k u (sym (t.1 k other) ∙ e)
+]
 
 -- nothing in either, the other way
 pub neither : (a b : Option ℕ) → either a b ≡ None → (a ≡ None) × (b ≡ None)

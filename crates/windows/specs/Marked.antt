@@ -1,79 +1,83 @@
--- What marks say: a word to an instant, a bit to a server.
-use Rattle.std.specs.Prelude.{◌≡◌, ℕ, zero, suc, ◌+◌, ◌<◌, ◌≤◌, min, cond, List, Some, None, Option, ◌==◌, ◌≢◌, slice_index, refl}
+-- What marks say: a set of servers to an instant.
+use Rattle.std.specs.Prelude.{◌≡◌, ℕ, zero, suc, ◌+◌, ◌<◌, ◌≤◌, min, cond, List, Some, None, Option, ◌==◌, ◌≢◌, slice_index_or, refl}
 use Rattle.bits.specs.Words.{bit}
+use Rattle.bits.specs.declared.server_set.ServerSet.{ServerSet}
 use Rattle.limits.specs.Ranges.{horizon}
 use Rattle.queues.specs.Dues.{Due, Within}
 use Rattle.queues.specs.Finds.{clash}
-use Rattle.queues.specs.Sizes.{weight}
+use Rattle.queues.specs.Words.{Worded}
 use Rattle.std.proofs.lemmas.Bool.{cases_eq, cond-false, cond-true, eq-eqb, ne_eqb}
 use Rattle.std.proofs.Common.{inl, inr, sym, ◌∙◌, arith}
 
--- bit p of word i
-abbrev pub at : List ℕ → ℕ → ℕ → ℕ
-at words i p = bit (slice_index words i) p
+-- the parts of the marks
+pub record Parts : Type 0 where
+  pub base : ℕ
+  pub sets : List ServerSet
+  pub summary : ℕ
+  pub held : ServerSet
 
--- the instant at which the first n words have bit p
-abbrev pub spot : List ℕ → ℕ → ℕ → ℕ → Option ℕ
-spot words base zero p = None
-spot words base (suc n) p = cond (at words n p == 1) (Some (base + n)) (spot words base n p)
+-- the word of set i
+abbrev pub word : List ServerSet → ℕ → ℕ
+word sets i = (slice_index_or sets i (record { word = 0 })).word
 
--- the instant at which a server is marked: word i is of the instant base + i, and its bit s - 1 of the server s
-abbrev pub marked : List ℕ → ℕ → Due
-marked words base zero = None
-marked words base (suc p) = spot words base 64 p
+-- bit p of set i, which is of the server p + 1
+abbrev pub at : List ServerSet → ℕ → ℕ → ℕ
+at sets i p = bit (word sets i) p
 
--- no bit stands in two words
-abbrev pub Single : List ℕ → Type 0
-Single words = (i j p : ℕ) → i < j → j < 64 → at words i p + at words j p < 2
+-- the instant at which the first n sets have bit p
+abbrev pub spot : List ServerSet → ℕ → ℕ → ℕ → Option ℕ
+spot sets base zero p = None
+spot sets base (suc n) p = cond (at sets n p == 1) (Some (base + n)) (spot sets base n p)
 
--- the bits are of servers, and at instants not past the horizon
-abbrev pub Placed : List ℕ → ℕ → Type 0
-Placed words base = (i p : ℕ) → i < 64 → at words i p ≡ 1 → (p < 64) × (base + i ≤ horizon)
+-- the instant at which a server is marked: set i is of the instant base + i
+abbrev pub marked : List ServerSet → ℕ → Due
+marked sets base zero = None
+marked sets base (suc p) = spot sets base 64 p
 
--- the word has the bits that some word has
-abbrev pub Gathered : List ℕ → ℕ → ℕ → Type 0
-Gathered words base word = (p : ℕ) → bit word p ≡ weight (spot words base 64 p)
+-- the same, of the parts
+abbrev pub near : Parts → Due
+near m = marked m.sets m.base
 
--- the summary has a bit for each word that is not 0
-abbrev pub Summed : List ℕ → ℕ → Type 0
-Summed words summary = (i : ℕ) → i < 64 → bit summary i ≡ min 1 (slice_index words i)
+-- no server is in two sets
+abbrev pub Single : List ServerSet → Type 0
+Single sets = (i j p : ℕ) → i < j → j < 64 → at sets i p + at sets j p < 2
 
--- what ties the parts of the marks to each other
-pub record Fine (base : ℕ) (words : List ℕ) (summary held : ℕ) : Type 0 where
+-- the sets are of servers, and of instants not past the horizon where they have one
+abbrev pub Placed : List ServerSet → ℕ → Type 0
+Placed sets base = (i p : ℕ) → i < 64 → at sets i p ≡ 1 → (p < 64) × (base + i ≤ horizon)
+
+-- the summary has a bit for each set that has a server
+abbrev pub Summed : List ServerSet → ℕ → Type 0
+Summed sets summary = (i : ℕ) → i < 64 → bit summary i ≡ min 1 (word sets i)
+
+-- what ties the parts to each other; `held` has the servers that are in some set
+pub record Fine (base : ℕ) (sets : List ServerSet) (summary : ℕ) (held : ServerSet) : Type 0 where
   pub early : base ≤ horizon
-  pub summed : Summed words summary
-  pub single : Single words
-  pub placed : Placed words base
-  pub gathered : Gathered words base held
+  pub summed : Summed sets summary
+  pub single : Single sets
+  pub placed : Placed sets base
+  pub gathered : Worded (marked sets base) held.word
 
--- the mark at the bit k of word i stands, and none stands before it: none in an earlier word, and none lower in its word
-pub record Earliest (words : List ℕ) (i k : ℕ) : Type 0 where
-  pub offset : i < 64
-  pub place : k < 64
-  pub stands : bit (slice_index words i) k ≡ 1
-  pub words_before : (j m : ℕ) → j < i → bit (slice_index words j) m ≡ 0
-  pub places_before : (m : ℕ) → m < k → bit (slice_index words i) m ≡ 0
-
--- the last of the words has the bit
-pub spot_hit : (words : List ℕ) (base n p : ℕ) → at words n p ≡ 1 → spot words base (suc n) p ≡ Some (base + n)
-spot_hit words base n p e = cond-true (at words n p == 1) (Some (base + n)) (spot words base n p) (eq-eqb (at words n p) 1 e)
+-- the last of the sets has the bit
+pub spot_hit : (sets : List ServerSet) (base n p : ℕ) → at sets n p ≡ 1 → spot sets base (suc n) p ≡ Some (base + n)
+spot_hit sets base n p e = cond-true (at sets n p == 1) (Some (base + n)) (spot sets base n p) (eq-eqb (at sets n p) 1 e)
 
 -- or it does not
-pub spot_miss : (words : List ℕ) (base n p : ℕ) → (at words n p ≢ 1) → spot words base (suc n) p ≡ spot words base n p
-spot_miss words base n p e = cond-false (at words n p == 1) (Some (base + n)) (spot words base n p) (ne_eqb (at words n p) 1 e)
+pub spot_miss : (sets : List ServerSet) (base n p : ℕ) → (at sets n p ≢ 1) → spot sets base (suc n) p ≡ spot sets base n p
+spot_miss sets base n p e = cond-false (at sets n p == 1) (Some (base + n)) (spot sets base n p) (ne_eqb (at sets n p) 1 e)
 
--- the word that has the bit
-pub spot_from : (words : List ℕ) (base n p t : ℕ) → spot words base n p ≡ Some t → (i : ℕ) × (i < n) × (at words i p ≡ 1) × (base + i ≡ t)
-spot_from words base zero p t e = absurd (clash refl e)
-spot_from words base (suc n) p t e = elim (cases_eq (at words n p) 1) [
-  | inl u ↦ (n, omega arith, u, (let h = spot_hit words base n p u in cc))
-  | inr u ↦ let r = spot_from words base n p t (sym (spot_miss words base n p u) ∙ e) in (r.0, omega arith, r.2, r.3)
+-- the set that has the bit
+pub spot_from : (sets : List ServerSet) (base n p t : ℕ) → spot sets base n p ≡ Some t → (i : ℕ) × (i < n) × (at sets i p ≡ 1) × (base + i ≡ t)
+spot_from sets base zero p t e = absurd (clash refl e)
+spot_from sets base (suc n) p t e = elim (cases_eq (at sets n p) 1) [
+  | inl u ↦ (n, omega arith, u, (let h = spot_hit sets base n p u in cc))
+  | inr u ↦ let r = spot_from sets base n p t (sym (spot_miss sets base n p u) ∙ e) in (r.0, omega arith, r.2, r.3)
 ]
 
 -- only servers are marked, and none past the horizon
-pub marked_within : (words : List ℕ) (base : ℕ) → Placed words base → Within (marked words base)
-marked_within words base h zero t e = absurd (clash refl e)
-marked_within words base h (suc p) t e =
-    let r = spot_from words base 64 p t e in
+pub marked_within : (sets : List ServerSet) (base : ℕ) → Placed sets base → Within (marked sets base)
+marked_within sets base h zero t e = absurd (clash refl e)
+marked_within sets base h (suc p) t e =
+    let r = spot_from sets base 64 p t e in
     let b = h r.0 p r.1 r.2 in
     (omega arith, omega arith, omega arith)

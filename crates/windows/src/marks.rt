@@ -1,35 +1,40 @@
-// The entries of 64 instants as bits.
-ghost use Rattle.std.specs.Prelude.{◌≡◌, ℕ, ◌+◌, ◌<◌, ◌≤◌, min, true, false, ◌≢◌, is_some, None};
+// The entries of 64 instants as sets of servers.
+ghost use Rattle.std.specs.Prelude.{◌≡◌, ℕ, ◌+◌, ◌<◌, ◌≤◌, min, true, false, ◌≢◌, is_some, IfSome, Some, None};
 ghost use Rattle.bits.specs.Words.{bit};
-ghost use Rattle.limits.specs.Ranges.{horizon, servers};
 ghost use Rattle.queues.specs.Dues.{Empty, First, Put, Taken};
-ghost use Rattle.windows.specs.Marked.{at};
-ghost use Rattle.windows.specs.Windows.{EarliestMark, Offered, Sane, mark_entry, near};
+ghost use Rattle.queues.specs.Entries.{Proper};
+ghost use Rattle.windows.specs.Marked.{near};
+ghost use Rattle.windows.specs.Offers.{Offered};
 
-use bits::{has_bit, lowest, with_bit, without_bit};
+use bits::{ServerSet, lowest, with_bit, without_bit};
 use queues::Entry;
+use std::marker::Model;
 
-// How many instants have a word.
+// How many instants have a set.
 const INSTANTS: u64 = 64;
 
-// A word for each of the instants from the base on, with bit s - 1 for the server s. The summary has a bit for each
-// word that is not 0, and `held` has the bits of all words.
+// A set of servers for each of the instants from the base on. The summary has a bit for each set that has a server,
+// and `held` has the servers of all sets.
 #[derive(Drop)]
 pub(crate) struct Marks {
     base: u64,
-    words: [u64; 64],
+    sets: [ServerSet; 64],
     summary: u64,
-    held: u64,
+    held: ServerSet,
 }
 
-// Where a mark stands: how far its instant is from the base, and the bit of its server.
-#[derive(Clone, Copy)]
-struct Mark {
-    offset: u32,
-    place: u32,
+// What ties the parts is a model's: with ghost fields, the check takes no board with a window over lent memory.
+impl Model for Marks {
+    ghost use Rattle.windows.specs.Marked.{Fine, Parts};
+
+    ghost Value = { Parts };
+
+    ghost view = { λ m. record { base = m.base; sets = m.sets; summary = m.summary; held = m.held } };
+
+    ghost invariant = { λ m. Fine m.base m.sets m.summary m.held };
 }
 
-// The summary once a word that was not 0 is `word`.
+// The summary once the set at the offset, which had a server, has the word.
 fn resummed(summary: u64, offset: u32, word: u64) -> u64
     requires within { offset < 64 }
     requires was { bit summary offset ≡ 1 }
@@ -47,130 +52,91 @@ impl Marks {
     // No marks.
     pub(crate) fn new() -> Marks
         ensures answer { Empty (near result) }
-        ensures keeps { Sane result }
     {
         Marks {
             base: 0,
-            words: [0; 64],
+            sets: [ServerSet::EMPTY; 64],
             summary: 0,
-            held: 0,
+            held: ServerSet::EMPTY,
         }
     }
 
-    // Marks the server at an instant that has a word.
-    fn mark(&mut self, server: u8, instant: u64)
-        requires sane { Sane self.old }
-        requires server { (1 ≤ server) × (server ≤ servers) }
-        requires early { instant ≤ horizon }
-        requires from { self.old.base ≤ instant }
-        requires to { instant < self.old.base + 64 }
-        requires absent { near self.old server ≡ None }
-        ensures after { Put (near self.old) (near self.new) server instant }
+    // Marks the entry, whose instant has a set.
+    fn mark(&mut self, entry: Entry)
+        requires proper { Proper entry }
+        requires from { self.old.base ≤ entry.instant }
+        requires to { entry.instant < self.old.base + 64 }
+        requires absent { near self.old entry.server ≡ None }
+        ensures after { Put (near self.old) (near self.new) entry.server entry.instant }
         ensures base { self.new.base ≡ self.old.base }
-        ensures keeps { Sane self.new }
     {
-        let offset = (instant - self.base) as usize;
-        let place = (server - 1) as u32;
-        let word = with_bit(self.words[offset], place);
-        self.words[offset] = word;
+        let offset = (entry.instant - self.base) as usize;
+        self.sets[offset].insert(entry.server);
         self.summary = with_bit(self.summary, offset as u32);
-        self.held = with_bit(self.held, place);
+        self.held.insert(entry.server);
     }
 
-    // Takes a mark away.
-    fn clear(&mut self, offset: u32, place: u32)
-        requires sane { Sane self.old }
-        requires offset { offset < 64 }
-        requires place { place < 64 }
-        requires stands { at self.old.words offset place ≡ 1 }
-        ensures gone { near self.new (place + 1) ≡ None }
-        ensures others { (k : ℕ) → (k ≢ place + 1) → near self.new k ≡ near self.old k }
-        ensures keeps { Sane self.new }
+    // Takes the mark of the entry away.
+    fn clear(&mut self, entry: Entry)
+        requires from { self.old.base ≤ entry.instant }
+        requires to { entry.instant < self.old.base + 64 }
+        requires stands { near self.old entry.server ≡ Some entry.instant }
+        ensures after { Taken (near self.old) (near self.new) (Some entry) }
     {
-        let i = offset as usize;
-        let word = without_bit(self.words[i], place);
-        self.words[i] = word;
-        self.summary = resummed(self.summary, offset, word);
-        self.held = without_bit(self.held, place);
+        let offset = (entry.instant - self.base) as usize;
+        self.sets[offset].remove(entry.server);
+        self.summary = resummed(self.summary, offset as u32, self.sets[offset].word);
+        self.held.remove(entry.server);
     }
 
-    // Marks the server if the instant has a word. While nothing is marked, the words begin with the instant.
-    pub(crate) fn offer(&mut self, server: u8, instant: u64) -> bool
-        requires sane { Sane self.old }
-        requires server { (1 ≤ server) × (server ≤ servers) }
-        requires early { instant ≤ horizon }
-        requires absent { near self.old server ≡ None }
-        ensures answer { Offered self.old self.new instant result }
-        ensures after { result ≡ true → Put (near self.old) (near self.new) server instant }
+    // Marks the entry if its instant has a set. While nothing is marked, the sets begin with the instant.
+    pub(crate) fn offer(&mut self, entry: Entry) -> bool
+        requires proper { Proper entry }
+        requires absent { near self.old entry.server ≡ None }
+        ensures answer { Offered self.old self.new entry.instant result }
+        ensures after { result ≡ true → Put (near self.old) (near self.new) entry.server entry.instant }
         ensures stays { result ≡ false → self.new ≡ self.old }
-        ensures keeps { Sane self.new }
     {
         if self.summary == 0 {
-            self.base = instant;
-            self.mark(server, instant);
+            self.base = entry.instant;
+            self.mark(entry);
             return true;
         }
-        if instant < self.base || instant - self.base >= INSTANTS {
+        if entry.instant < self.base || entry.instant - self.base >= INSTANTS {
             return false;
         }
-        self.mark(server, instant);
+        self.mark(entry);
         true
     }
 
-    // The mark before all others: the lowest bit of the first word that is not 0.
-    fn earliest(&self) -> Option<Mark>
-        requires { Sane self.now }
-        ensures answer { EarliestMark self.now result }
+    // The first entry that is marked: the lowest server of the first set that has one.
+    pub(crate) fn least(&self) -> Option<Entry>
+        ensures answer { First (near self.now) result }
+        ensures inside { IfSome result (λ e. (self.now.base ≤ e.instant) × (e.instant < self.now.base + 64)) }
     {
         let offset = lowest(self.summary)?;
-        let place = lowest(self.words[offset as usize])?;
-        Some(Mark { offset, place })
-    }
-
-    // The entry that a mark stands for.
-    fn entry_of(&self, mark: Mark) -> Entry
-        requires sane { Sane self.now }
-        requires mark { (mark.offset < 64) × (mark.place < 64) }
-        ensures answer { result ≡ mark_entry self.now.base mark }
-    {
-        Entry {
-            instant: self.base + mark.offset as u64,
-            server: mark.place as u8 + 1,
-        }
-    }
-
-    // The first entry that is marked.
-    pub(crate) fn least(&self) -> Option<Entry>
-        requires { Sane self.now }
-        ensures answer { First (near self.now) result }
-    {
-        let Some(mark) = self.earliest() else {
-            return None;
-        };
-        Some(self.entry_of(mark))
+        let server = self.sets[offset as usize].first()?;
+        Some(Entry {
+            instant: self.base + offset as u64,
+            server,
+        })
     }
 
     // Gives the first entry that is marked, and takes its mark away.
     pub(crate) fn take(&mut self) -> Option<Entry>
-        requires { Sane self.old }
         ensures answer { First (near self.old) result }
         ensures after { Taken (near self.old) (near self.new) result }
         ensures stays { is_some result ≡ false → self.new ≡ self.old }
-        ensures keeps { Sane self.new }
     {
-        let Some(mark) = self.earliest() else {
-            return None;
-        };
-        let first = self.entry_of(mark);
-        self.clear(mark.offset, mark.place);
+        let first = self.least()?;
+        self.clear(first);
         Some(first)
     }
 
     // Whether the server is marked.
     pub(crate) fn holds(&self, server: u8) -> bool
-        requires { Sane self.now }
         ensures answer { result ≡ is_some (near self.now server) }
     {
-        0 < server && has_bit(self.held, (server - 1) as u32)
+        self.held.contains(server)
     }
 }

@@ -1,21 +1,18 @@
 // How much a heap holds, and can hold.
-ghost use Rattle.heaps.specs.Held.{Sound, held, room};
+ghost use Rattle.heaps.specs.Held.{held, room};
 ghost use Rattle.std.specs.Prelude.{◌≡◌, length, ◌==◌};
 
 use super::Heap;
-use crate::order::Ordered;
 
-impl<'a, E: Ordered> Heap<'a, E> {
+impl<'a, E: Ord + Copy> Heap<'a, E> {
     // How many entries it holds.
     pub fn len(&self) -> usize
-        requires { Sound E.at_or_before self.now }
         ensures answer { result ≡ length (held self.now) }
     {
         self.len
     }
 
     pub fn is_empty(&self) -> bool
-        requires { Sound E.at_or_before self.now }
         ensures answer { result ≡ (length (held self.now) == 0) }
     {
         self.len() == 0

@@ -17,6 +17,9 @@ use std::alloc::Global;
 // The most records of a plan.
 const MOST_RECORDS: usize = 1_024;
 
+// The longest plan, in bytes: one byte more decides that bytes are no plan.
+pub const MOST_PLAN_BYTES: u64 = 16_384;
+
 // How many records the bytes have, if their size is that of a plan.
 fn record_count(bytes: &[u8]) -> Option<usize>
     ensures answer { MatchOption result (sized bytes.now ≡ false) (λ n. (sized bytes.now ≡ true) × (n ≡ count_of bytes.now)) }
@@ -42,21 +45,21 @@ fn read_record(
     ensures answer { Took bytes.now place servers.old.items servers.new.items result }
 {
     let raw = Record::at(bytes, place);
-    match entry_of(servers.as_slice(), &raw) {
-        Ok(Entry::NewServer(number, cap)) => add_server(heap, servers, number, cap)?,
-        Ok(Entry::NewAction(action)) => add_action(servers, action)?,
-        Err(refusal) => return Err(ReadError::Fault(plan_fault(refusal, place))),
+    match entry_of(servers.as_slice(), &raw).map_err(|refusal| plan_fault(refusal, place))? {
+        Entry::NewServer { number, cap } => add_server(heap, servers, number, cap)?,
+        Entry::NewAction(action) => add_action(servers, action)?,
     }
     Ok(())
 }
 
 // The servers of the first `count` records.
+#[tactic(auto, using(crate::proofs::Reading::head_fault, crate::proofs::Reading::reading_more, crate::proofs::Reading::sized_parts))]
 fn read_servers(heap: Global, bytes: &[u8], count: usize) -> Result<Vec<Server>, ReadError>
     requires { (sized bytes.now ≡ true) × (count ≡ count_of bytes.now) }
     ensures answer { ReadServers bytes.now result }
 {
     if !is_head(&Record::at(bytes, 0)) {
-        return Err(ReadError::Fault(plan_fault(Refusal::RecordForm, 0)));
+        return Err(plan_fault(Refusal::RecordForm, 0).into());
     }
     let mut servers = Vec::new(heap);
     for place in 1..count {
@@ -67,12 +70,11 @@ fn read_servers(heap: Global, bytes: &[u8], count: usize) -> Result<Vec<Server>,
 
 impl Plan {
     // The plan that the bytes are the encoding of, or the first fault that they have.
+    #[tactic(auto, using(crate::proofs::NoFault::not_in_order, crate::proofs::NoFault::not_sized))]
     pub fn read(heap: Global, bytes: &[u8]) -> Result<Plan, ReadError>
         ensures answer { Read bytes.now result }
     {
-        let Some(count) = record_count(bytes) else {
-            return Err(ReadError::Fault(plan_fault(Refusal::PlanSize, 0)));
-        };
+        let count = record_count(bytes).ok_or(plan_fault(Refusal::PlanSize, 0))?;
         let servers = read_servers(heap, bytes, count)?;
         Ok(Plan { servers })
     }
@@ -103,9 +105,7 @@ impl Plan {
     pub fn action(&self, server: u8, number: u8) -> Option<&Action>
         ensures answer { option_map (λ x. x.now) result ≡ action_of self.now server number }
     {
-        match self.server(server) {
-            Some(found) => find(found.actions.as_slice(), number),
-            None => None,
-        }
+        let server = self.server(server)?;
+        find(server.actions.as_slice(), number)
     }
 }

@@ -1,13 +1,15 @@
 // A row is a queue.
 ghost use Rattle.queues.specs.Dues.{Empty};
 ghost use Rattle.queues.specs.Makes.{row_due, row_within};
+ghost use Rattle.queues.specs.Rows.{IsPlace};
+ghost use Rattle.std.specs.Prelude.{◌≤◌, length};
 
 use super::Row;
 use crate::checks::check_put;
 use crate::entry::Entry;
-use crate::places::insert;
 use crate::queue::Queue;
-use bits::{has_bit, with_bit, without_bit};
+use arrayvec::ArrayVec;
+use bits::ServerSet;
 use limits::Refusal;
 
 impl Row {
@@ -16,51 +18,46 @@ impl Row {
         ensures answer { Empty (row_due result) }
     {
         Row {
-            places: [Entry {
-                instant: 0,
-                server: 0,
-            }; 64],
-            len: 0,
-            held: 0,
+            entries: ArrayVec::new(),
+            held: ServerSet::EMPTY,
         }
+    }
+
+    // The place of a new entry: right of all that it is at or before.
+    fn place_of(&self, new: &Entry) -> usize
+        ensures within { result ≤ length self.now.entries.items }
+        ensures answer { IsPlace self.now.entries.items new.now result }
+    {
+        self.entries.partition_point(|entry| new <= entry)
     }
 }
 
 impl Queue for Row {
-    ghost sound = { λ q. Unit {0} };
-
     ghost due = { row_due };
 
-    ghost within = { λ q _. row_within q };
+    ghost within = { row_within };
 
     fn put(&mut self, server: u8, instant: u64) -> Result<(), Refusal> {
         check_put(server, instant, self.holds(server))?;
-        let len = self.len;
-        let _at = insert(&mut self.places, len, Entry { instant, server });
-        self.len = len + 1;
-        self.held = with_bit(self.held, (server - 1) as u32);
+        let new = Entry { instant, server };
+        let place = self.place_of(&new);
+        self.entries.insert(place, new);
+        self.held.insert(server);
         Ok(())
     }
 
     fn least(&self) -> Option<Entry> {
-        if self.len == 0 {
-            return None;
-        }
-        Some(self.places[self.len - 1])
+        self.entries.last().copied()
     }
 
+    // The same lines as a heap queue's: a trait of what the two keep their entries in would take laws of its own.
     fn take(&mut self) -> Option<Entry> {
-        if self.len == 0 {
-            return None;
-        }
-        let last = self.len - 1;
-        let first = self.places[last];
-        self.len = last;
-        self.held = without_bit(self.held, (first.server - 1) as u32);
+        let first = self.entries.pop()?;
+        self.held.remove(first.server);
         Some(first)
     }
 
     fn holds(&self, server: u8) -> bool {
-        0 < server && has_bit(self.held, (server - 1) as u32)
+        self.held.contains(server)
     }
 }

@@ -11,6 +11,9 @@ use std::alloc::Global;
 // The most lines of a script.
 const MOST_LINES: usize = 1_024;
 
+// The longest script, in bytes: one byte more decides that bytes are no script.
+pub const MOST_SCRIPT_BYTES: u64 = 24_576;
+
 // The fault of a script at a line.
 fn script_fault(place: usize) -> Fault
     ensures answer { result ≡ script_fault_of place }
@@ -32,11 +35,9 @@ impl Script {
         while !rest.is_empty() {
             let place = lines.len() + 1;
             if place > MOST_LINES {
-                return Err(ReadError::Fault(script_fault(place)));
+                return Err(script_fault(place).into());
             }
-            let Some((line, after)) = read_line(rest) else {
-                return Err(ReadError::Fault(script_fault(place)));
-            };
+            let (line, after) = read_line(rest).ok_or(script_fault(place))?;
             lines.push(line)?;
             rest = after;
         }

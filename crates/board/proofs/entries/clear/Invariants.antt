@@ -3,6 +3,3 @@ use Rattle.board.proofs.entries.clear.Given as goal
 
 abbrev pub decreases-loop-e : goal.decreases-loop-e
 decreases-loop-e g l = size 65 (g.Q.Queue.due l.queue)
-
-abbrev pub invariant-loop-e : goal.invariant-loop-e
-invariant-loop-e g l = g.Q.Queue.sound l.queue

@@ -10,5 +10,5 @@ overflow_add-result c =
 pub returns : goal.returns
 returns c =
     let a = c.args in
-    let q = c.div_ceil.ensures ∙ ceil_quotient a.left a.limit c.requires.limit in
-    record { answer = ap (λ n. a.boundary + n * a.period) q }
+    let q = c.div_ceil.ensures ∙ ceil_quotient a.left a.task.limit c.requires.limit in
+    record { answer = ap (λ n. a.boundary + n * a.task.period) q }

@@ -1,16 +1,18 @@
-use Rattle.std.proofs.Common.{◌≡◌, ℕ, ◌-◌, ◌*◌, ◌/◌, ◌≤◌, true, false, List, [], ◌∷◌, refl, subst, inl, inr, div-mul-le_self, arith}
+use Rattle.limits.specs.Tasks.{task}
+use Rattle.std.proofs.Common.{◌≡◌, ℕ, ◌-◌, ◌*◌, ◌/◌, ◌≤◌, true, false, List, [], ◌∷◌, Ok, Err, refl, subst, inl, inr, div-mul-le_self, arith}
 use Rattle.limits.specs.declared.refusal.Refusal.TheVariants.{ActionAtWork, NotAdmitted}
 use Rattle.release.specs.Actions.{Action, Meaning, action, boundary, ceil, first_amount_of, first_boundary_of, forecast}
 use Rattle.release.specs.Rules.{WithinShare, early, in_range, late}
 use Rattle.share.proofs.Keeping.{share_holds}
 use Rattle.share.proofs.examples.examples_hold.Goals as goal
+use Rattle.share.specs.Answers.{Answer}
 use Rattle.share.specs.Examples.{admission, after, caps_over, ended_at_rest, ended_early, ended_late, forecast_early, late_server, never_ended, not_released, not_served, one_tick_more, past_count, plain, refused_freely, released_early, served, served_at_rest, spoken, worked}
 use Rattle.share.specs.Plays.{answers_of}
 use Rattle.share.specs.Share.{Began, Ended, Kept, WorksOn}
 use Rattle.share.specs.Traces.{Begins, Trace, caps_held, heard, nothing, spelt}
-use Rattle.share.specs.declared.calls.Answer.TheVariants.{Started, Refused}
 use Rattle.share.specs.declared.calls.Call.{Call}
 use Rattle.share.specs.declared.calls.Call.TheVariants.{Admit, Leave, Start, Tick, Advance}
+use Rattle.share.specs.declared.calls.Outcome.TheVariants.{Started}
 use Rattle.slots.specs.Advances.{span}
 use Rattle.slots.specs.Steps.{fresh}
 use Rattle.std.proofs.lemmas.Bool.{both_ways, cond_both}
@@ -28,22 +30,22 @@ played_keeps rule law calls p e = subst (Kept rule) e (share_holds rule law call
 
 worked_keeps : Kept late worked
 unfolding span ceil first_boundary_of first_amount_of forecast
-worked_keeps = played_keeps late late_law (Admit 1 500_000 ∷ Admit 2 500_000 ∷ Start 1 3 2 4 ∷ Advance 1 ∷ Start 2 1 1 2 ∷ Advance 7 ∷ Advance 6 ∷ Advance 5 ∷ Advance 4 ∷ Advance 3 ∷ Leave 2 ∷ []) worked refl
+worked_keeps = played_keeps late late_law (Admit 1 500_000 ∷ Admit 2 500_000 ∷ Start 1 (task 3 2 4) ∷ Advance 1 ∷ Start 2 (task 1 1 2) ∷ Advance 7 ∷ Advance 6 ∷ Advance 5 ∷ Advance 4 ∷ Advance 3 ∷ Leave 2 ∷ []) worked refl
 
 early_keeps : Kept early released_early
 unfolding span ceil first_boundary_of first_amount_of forecast
-early_keeps = played_keeps early early_law (Admit 1 500_000 ∷ Tick ∷ Start 1 3 2 4 ∷ Advance 100 ∷ Advance 100 ∷ Advance 100 ∷ Advance 100 ∷ []) released_early refl
+early_keeps = played_keeps early early_law (Admit 1 500_000 ∷ Tick ∷ Start 1 (task 3 2 4) ∷ Advance 100 ∷ Advance 100 ∷ Advance 100 ∷ Advance 100 ∷ []) released_early refl
 
 plain_keeps : Kept late plain
 unfolding ceil first_boundary_of first_amount_of forecast
-plain_keeps = played_keeps late late_law (Admit 1 500_000 ∷ Start 1 2 1 2 ∷ Tick ∷ Tick ∷ Tick ∷ Tick ∷ []) plain refl
+plain_keeps = played_keeps late late_law (Admit 1 500_000 ∷ Start 1 (task 2 1 2) ∷ Tick ∷ Tick ∷ Tick ∷ Tick ∷ []) plain refl
 
 -- the action of the others
 abbrev k : Action
 k = action 0 2 1 2
 
 began : (all : Trace) → Begins (after []) all → Began all 1 k 4
-began all part = record { before = spoken admission; answer = Started 4; arrives = refl; accepts = refl; forecasts = refl; part = part }
+began all part = record { before = spoken admission; answer = Ok (Started 4); arrives = refl; accepts = refl; forecasts = refl; part = part }
 
 -- no server is at work before any call
 idle : (s : ℕ) (k : Action) → WorksOn nothing s k → ⊥
@@ -90,13 +92,13 @@ not_released_lem h =
 forecast_early_lem : Kept late forecast_early → ⊥
 unfolding ceil first_boundary_of first_amount_of forecast
 forecast_early_lem h =
-    let r : Started 2 ≡ Started 4 = h.answers_by_checks (spoken admission) (Start 1 2 1 2) (Started 2) (inl refl) in
+    let r : ◌≡◌ {A = Answer} (Ok (Started 2)) (Ok (Started 4)) = h.answers_by_checks (spoken admission) (Start 1 (task 2 1 2)) (Ok (Started 2)) (inl refl) in
     let z : ◌≡◌ {A = ℕ} 2 4 = cc in
     omega arith
 
 refused_freely_lem : Kept late refused_freely → ⊥
 refused_freely_lem h =
-    let r : Refused ActionAtWork ≡ Refused NotAdmitted = h.answers_by_checks nothing (Leave 1) (Refused ActionAtWork) (inl refl) in
+    let r : ◌≡◌ {A = Answer} (Err ActionAtWork) (Err NotAdmitted) = h.answers_by_checks nothing (Leave 1) (Err ActionAtWork) (inl refl) in
     let z : ◌≡◌ {A = ℕ} 0 1 = cc in
     omega arith
 

@@ -1,41 +1,21 @@
-use Rattle.std.proofs.Common.{◌≡◌, ℕ, ◌-◌, ◌<◌, ◌≤◌, None, Ok, Err, Option, ap, ◌∙◌, arith}
-use Rattle.board.proofs.Judged.{advance_accepted}
+use Rattle.std.proofs.Common.{◌≡◌, ℕ, ◌-◌, Some, None, Ok, Option, Result}
 use Rattle.board.specs.Boards.{model}
-use Rattle.limits.specs.Ranges.{horizon}
 use Rattle.limits.specs.declared.refusal.Refusal.{Refusal}
 use Rattle.timer_sheets.proofs.play.run_on.Goals as goal
-use Rattle.timer_sheets.specs.declared.line.SheetLine.TheVariants.{Run as Runs}
-use Rattle.slots.specs.Advances.{advance_refusal, advanced, span, turns}
-use Rattle.slots.specs.Steps.{Model, changed, judged}
+use Rattle.timer_sheets.specs.Sheets.{next_run}
+use Rattle.timer_sheets.specs.declared.line.SheetLine.TheVariants.{Run}
+use Rattle.slots.specs.Advances.{advance_refusal, advanced}
+use Rattle.slots.specs.Steps.{Model, judged}
 use Rattle.slots.specs.declared.sets.Advanced.{Advanced}
 
--- an advance up to an instant ahead is accepted
-towards : (m : Model) (n t : ℕ) → n ≡ t - m.clock → m.clock < t → t ≤ horizon → advance_refusal m n ≡ None
-towards m n t e l h = advance_accepted m n (omega arith) (omega arith) (omega arith)
+-- a value that a list of checks let through
+passed : {A : Type 0} (v : Option Refusal) (x y : A) → Ok y ≡ judged v x → y ≡ x
+passed None x y e = cc
+passed (Some why) x y e = cc
 
-pub unreachable-requires : goal.unreachable-requires
-unreachable-requires g c =
-    let m : Model = model c.args.board.now in
-    let n = c.args.instant - c.clock-before.result in
-    let count : n ≡ c.args.instant - m.clock = ap (λ (k : ℕ). c.args.instant - k) c.clock-before.ensures.answer in
-    let ok = towards m n c.args.instant count c.requires.ahead c.requires.early in
-    let told : Err c.in-Err._why ≡ Ok (advanced m n) = c.in-Err.ensures.answer ∙ ap (λ (w : Option Refusal). judged w (advanced m n)) ok in
-    let z : ◌≡◌ {A = ℕ} 0 1 = cc in
-    omega arith
+-- an advance up to the instant t that was accepted is the next run towards it
+run_is : (m : Model) (clock t : ℕ) (answer : Result Advanced Refusal) (run : Advanced) → clock ≡ m.clock → answer ≡ judged (advance_refusal m (t - clock)) (advanced m (t - clock)) → answer ≡ Ok run → Run clock run ≡ next_run m t
+run_is m clock t answer run at told ok = let is : run ≡ advanced m (t - clock) = passed (advance_refusal m (t - clock)) _ run (cc) in cc
 
-pub returns : goal.returns
-returns g c =
-    let m : Model = model c.args.board.now in
-    let n = c.args.instant - c.clock-before.result in
-    let clock = c.clock-before.ensures.answer in
-    let count : n ≡ c.args.instant - m.clock = ap (λ (k : ℕ). c.args.instant - k) clock in
-    let ok = towards m n c.args.instant count c.requires.ahead c.requires.early in
-    let e = c.in-Ok.ensures in
-    let told : Ok c.in-Ok.run' ≡ Ok (advanced m n) = e.answer ∙ ap (λ (w : Option Refusal). judged w (advanced m n)) ok in
-    let run : c.in-Ok.run' ≡ advanced m n = cc in
-    record {
-      answer = ap (λ (a : Advanced). Runs c.clock-before.result a) (run ∙ ap (advanced m) count) ∙ ap (λ (k : ℕ). Runs k (advanced m (c.args.instant - m.clock))) clock;
-      after = e.after ∙ ap (λ (w : Option Refusal). changed w m (turns (span m n) m)) ok ∙ ap (λ (k : ℕ). turns (span m k) m) count;
-      rule = e.rule;
-      keeps = e.keeps;
-    }
+pub returns-clause-answer : goal.returns-clause-answer
+returns-clause-answer g c = run_is (model c.args.board.now) c.clock-before.result c.args.instant c.advance.result c.unwrap-run.result c.clock-before.ensures.answer c.advance.ensures.answer c.unwrap-run.ensures

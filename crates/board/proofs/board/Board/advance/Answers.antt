@@ -1,45 +1,31 @@
-use Rattle.std.proofs.Common.{◌∙◌}
-use Rattle.std.proofs.lemmas.Bool.{true≢false}
-use Rattle.slots.specs.Steps.{Model}
+use Rattle.std.proofs.Common.{Ok, Option, sym, ap, ◌∙◌, subst, arith}
+use Rattle.limits.specs.declared.refusal.Refusal.{Refusal}
+use Rattle.slots.specs.Advances.{Largest, advanced, leapt}
+use Rattle.slots.specs.Steps.{judged}
+use Rattle.slots.specs.declared.sets.Advanced.{Advanced}
 use Rattle.board.specs.Boards.{model}
-use Rattle.board.proofs.Advancing.{advance_after_lem, advance_answer, advance_largest, advance_skips, advance_works, last_refused}
+use Rattle.board.proofs.Advancing.{advance_allowed, advance_largest, leapt_punctual, leapt_works}
+use Rattle.board.proofs.Judged.{advance_accepted}
 use Rattle.board.proofs.board.Board.advance.Goals as goal
 
-pub overflow_sub-ticks : goal.overflow_sub-ticks
-overflow_sub-ticks g c = (advance_largest (model c.args.self.now) c.args.count c.reach-ticks.result c.reach-ticks.ensures.answer c.requires.whole.sound c.if-count-lt1.false c.if-self-ge-HORIZON.false).allowed.some
+pub pass-requires : goal.pass-requires
+pass-requires g c = let o = c.args.self.now in advance_allowed (model o) c.args.count c.reach-ticks.result c.reach-ticks.ensures.answer o.sound (omega arith) (omega arith)
 
-pub skip-requires : goal.skip-requires
-skip-requires g c = record {
-  agrees = c.requires;
-  allowed = advance_skips (model c.args.self.now) c.args.count c.reach-ticks.result c.reach-ticks.ensures.answer c.requires.whole.sound c.if-count-lt1.false c.if-self-ge-HORIZON.false;
-}
-
-pub unreachable-requires : goal.unreachable-requires
-unreachable-requires g c =
-    last_refused (model c.args.self.now) c.args.count c.reach-ticks.result c.reach-ticks.ensures.answer c.requires.whole.sound c.if-count-lt1.false c.if-self-ge-HORIZON.false
-    (model c.skip.new.self) c.skip.ensures.after c.in-Err._why c.in-Err.ensures.answer
-
-pub returns : goal.returns
-returns g c =
-    let m : Model = model c.args.self.now in
+pub returns-clause-answer : goal.returns-clause-answer
+returns-clause-answer g c =
+    let m = model c.args.self.now in
     let n = c.args.count in
-    let k = c.reach-ticks.result in
-    let is = c.reach-ticks.ensures.answer in
-    let s = c.requires.whole.sound in
-    let low = c.if-count-lt1.false in
-    let high = c.if-count-gt-HORIZON.false in
-    let early = c.if-self-ge-HORIZON.false in
-    let z : Model = model c.skip.new.self in
-    let at = c.skip.ensures.after in
-    let t = c.in-Ok.last in
-    let e = c.in-Ok.ensures in
-    record {
-      answer = advance_answer m n k is s low early z at t e.answer high;
-      after = advance_after_lem m n k is s low early z at high (model c.tick.new.self) e.after;
-      largest = advance_largest m n k is s low early;
-      punctual = e.punctual;
-      at_work = advance_works m n k is s low early z at t e.answer;
-      stays = λ u. absurd (true≢false u);
-      rule = e.rule ∙ c.skip.ensures.rule;
-      keeps = e.keeps;
-    }
+    let ok = advance_accepted m n (omega arith) (omega arith) (omega arith) in
+    ap (λ (a : Advanced). Ok a) (c.pass.ensures.answer ∙ ap (leapt m) c.reach-ticks.ensures.answer) ∙ sym (ap (λ (w : Option Refusal). judged w (advanced m n)) ok)
+
+pub returns-clause-largest : goal.returns-clause-largest
+returns-clause-largest g c =
+    let o = c.args.self.now in
+    let n = c.args.count in
+    subst (Largest (model o) n) (sym (ap (λ (a : Advanced). a.ticks) c.pass.ensures.answer)) (advance_largest (model o) n c.reach-ticks.result c.reach-ticks.ensures.answer o.sound (omega arith) (omega arith))
+
+pub returns-clause-punctual : goal.returns-clause-punctual
+returns-clause-punctual g c = let o = c.args.self.now in leapt_punctual (model o) o.sound c.reach-ticks.result c.pass.result c.pass.ensures.answer
+
+pub returns-clause-at_work : goal.returns-clause-at_work
+returns-clause-at_work g c = let o = c.args.self.now in leapt_works (model o) o.sound c.reach-ticks.result c.pass.result c.pass.ensures.answer

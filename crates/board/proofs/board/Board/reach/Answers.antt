@@ -1,4 +1,4 @@
-use Rattle.std.proofs.Common.{ap, ◌∙◌}
+use Rattle.std.proofs.Common.{ℕ, ap, ◌∙◌}
 use Rattle.slots.specs.Advances.{owing, span, until_end_of}
 use Rattle.slots.specs.Slots.{pick}
 use Rattle.board.proofs.board.Board.reach.Goals as goal
@@ -8,4 +8,5 @@ unfolding span
 returns g c =
     let o = c.args.self.now in
     let xs = o.table.slots in
-    record { answer = c.unserved.ensures.answer ∙ ap (owing xs (pick xs)) (c.until_end.ensures.answer ∙ ap (until_end_of o.clock xs) c.min-most.ensures) }
+    let until = c.until_end.ensures.answer ∙ ap (until_end_of o.clock xs) c.min-most.ensures in
+    record { answer = c.unserved.ensures.answer ∙ ap (λ (n : ℕ). owing xs (pick xs) n) until }

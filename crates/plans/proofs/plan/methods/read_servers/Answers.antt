@@ -1,21 +1,13 @@
-use Rattle.plans.proofs.Reading.{head_fault, reading_all, reading_more, reading_stops, sized_parts}
+use Rattle.plans.proofs.Reading.{reading_all, reading_stops, sized_parts}
 use Rattle.plans.proofs.plan.methods.read_servers.Goals as goal
 use Rattle.plans.specs.Faults.{head_form}
 use Rattle.std.proofs.lemmas.Result.{err_from_is_err_and}
 use Rattle.std.proofs.Common.{vec_items, sym, ap, ◌∙◌, arith}
 
-pub returns-then-not-is_head : goal.returns-then-not-is_head
-returns-then-not-is_head c =
-    record { answer = head_fault c.args.bytes.now c.plan_fault.result (sized_parts _ c.requires.0) c.plan_fault.ensures.answer (ap head_form (sym c.at.ensures.answer) ∙ sym c.if-not-is_head.ensures.answer) }
-
 pub returns-in_err-read_record : goal.returns-in_err-read_record
 returns-in_err-read_record c =
     let p = err_from_is_err_and c.from_residual.result c.from_residual.ensures.1 in
     rw (p.1, p.2) (record { answer = reading_stops c.args.bytes.now c.loop-place.place _ c.loop-place.invariant (vec_items c.read_record.new.servers) c.in_err-read_record.field-0.0 (omega arith) c.in_err-read_record.ensures.answer })
-
-pub loop-place-preserved : goal.loop-place-preserved
-loop-place-preserved c =
-    reading_more c.args.bytes.now c.loop-place.place _ c.loop-place.invariant _ (λ i. omega (arith, c.type_inv.bytes i)) c.in_ok-read_record.ensures.answer
 
 pub returns : goal.returns
 returns c =

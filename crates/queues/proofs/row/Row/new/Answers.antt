@@ -1,13 +1,8 @@
-use Rattle.bits.proofs.Bits.{bit_of_zero}
+use Rattle.queues.proofs.Sought.{empty_list}
 use Rattle.queues.proofs.row.Row.new.Goals as goal
-use Rattle.std.proofs.Common.{arith}
+use Rattle.std.proofs.Common.{length, ap, arith}
 
 pub invariant_of-result : goal.invariant_of-result
 invariant_of-result c =
-    record {
-      fits = omega arith;
-      falls = λ i j l m. absurd (omega arith);
-      apart = λ i j l. absurd (omega arith);
-      bounded = λ i l. absurd (omega arith);
-      word = λ p. bit_of_zero p;
-    }
+    let none = empty_list c.new.result.items c.new.ensures in
+    record { falls = λ i j d l m. absurd (omega (arith, ap length c.new.ensures)); apart = none.0; bounded = none.1; word = none.2 }

@@ -1,37 +1,38 @@
-use Rattle.std.proofs.Common.{◌≡◌, ◌+◌, ◌-◌, ◌<◌, length, get_or, set, ap, ◌∙◌, arith}
-use Rattle.windows.proofs.Marking.{clear_gathered, clear_placed, clear_single, clear_spot, marked_at, marked_rest}
-use Rattle.windows.proofs.Summaries.{pos_from_bit, summed_set}
+use Rattle.std.proofs.Common.{◌<◌, length, min, ap, ◌∙◌, arith}
+use Rattle.windows.proofs.Steps.{clearing_fine, clearing_taken, off, place, standing}
+use Rattle.windows.proofs.Summaries.{pos_from_bit, word_here}
 use Rattle.windows.proofs.marks.Marks.clear.Goals as goal
-use Rattle.windows.specs.Marked.{spot}
+use Rattle.windows.specs.Marked.{Parts, word}
 
-pub resummed-self-requires : goal.resummed-self-requires
-resummed-self-requires c =
-    let m = c.args.self.now in
-    let pos = pos_from_bit (get_or m.words c.args.offset 0) c.args.place c.requires.stands in
-    record { within = c.requires.offset; was = omega (arith, c.requires.sane.summed c.args.offset c.requires.offset) }
+pub resummed-self-inside-requires-clause-was : goal.resummed-self-inside-requires-clause-was
+resummed-self-inside-requires-clause-was c =
+    let m : Parts = record { base = c.self.inside.base; sets = c.self.inside.sets; summary = c.self.inside.summary; held = c.self.inside.held } in
+    let e = c.args.entry in
+    let s = standing c.args.self.now m c.self.view_is c.self.invariant e c.requires.stands in
+    let pos = pos_from_bit (word m.sets (off m e)) (place e) s.stands in
+    omega (arith, c.self.invariant.summed (off m e) s.short)
+
+pub invariant_of-self : goal.invariant_of-self
+invariant_of-self c =
+    let m : Parts = record { base = c.self.inside.base; sets = c.self.inside.sets; summary = c.self.inside.summary; held = c.self.inside.held } in
+    let e = c.args.entry in
+    let w = c.remove.new.self in
+    let s = standing c.args.self.now m c.self.view_is c.self.invariant e c.requires.stands in
+    let inside : off m e < length m.sets = omega (arith, s.short) in
+    let sum = c.resummed-self-inside.ensures in
+    clearing_fine c.args.self.now m c.self.view_is c.self.invariant e w c.resummed-self-inside.result c.remove-2.new.self (omega arith)
+    c.requires.stands (c.remove.ensures.server s.server) (sum.here ∙ ap (min 1) (word_here m.sets (off m e) w inside)) sum.others (c.remove-2.ensures.server s.server)
 
 pub returns : goal.returns
 returns c =
-    let m = c.args.self.now in
-    let r = c.args.offset in
-    let p = c.args.place in
-    let w = c.without_bit-word.result in
-    let xs = m.words in
-    let fine = c.requires.sane in
-    let short = c.requires.offset in
-    let inside : r < length xs = omega arith in
-    let others = c.without_bit-word.ensures.answer.others in
-    let here = c.without_bit-word.ensures.answer.here in
-    let was = c.requires.stands in
-    let back : p + 1 - 1 ≡ p = omega arith in
+    let m : Parts = record { base = c.self.inside.base; sets = c.self.inside.sets; summary = c.self.inside.summary; held = c.self.inside.held } in
+    let e = c.args.entry in
+    let w = c.remove.new.self in
+    let s = standing c.args.self.now m c.self.view_is c.self.invariant e c.requires.stands in
+    let inside : off m e < length m.sets = omega (arith, s.short) in
+    let sum = c.resummed-self-inside.ensures in
     record {
-      gone = marked_at (set xs r w) m.base (p + 1) (omega arith) ∙ ap (spot (set xs r w) m.base 64) back ∙ clear_spot xs m.base r w p inside others short fine.single fine.placed was here;
-      others = λ k u. marked_rest xs m.base r w p inside others k u;
-      keeps = record {
-        early = fine.early;
-        summed = summed_set xs m.summary c.resummed-self.result r w fine.summed inside c.resummed-self.ensures.here c.resummed-self.ensures.others;
-        single = clear_single xs m.base r w p inside others short fine.single fine.placed was here;
-        placed = clear_placed xs m.base r w p inside others short fine.single fine.placed was here;
-        gathered = clear_gathered xs m.base r w p inside others short fine.single fine.placed was here m.held c.without_bit-self.result fine.gathered c.without_bit-self.ensures.answer.here c.without_bit-self.ensures.answer.others;
-      };
+      after =
+          clearing_taken c.args.self.now m c.self.view_is c.self.invariant e w c.resummed-self-inside.result c.remove-2.new.self (omega arith)
+          c.requires.stands (c.remove.ensures.server s.server) (sum.here ∙ ap (min 1) (word_here m.sets (off m e) w inside)) sum.others (c.remove-2.ensures.server s.server);
     }

@@ -1,17 +1,14 @@
-use Rattle.queues.specs.Dues.{First}
-use Rattle.queues.specs.declared.entry.Entry.{Entry}
-use Rattle.std.proofs.Common.{Some, sym, subst}
-use Rattle.windows.proofs.Marking.{marked_first, none_marked}
+use Rattle.windows.proofs.Steps.{near_first, near_none}
 use Rattle.windows.proofs.marks.Marks.least.Goals as goal
-use Rattle.windows.specs.Windows.{near}
+use Rattle.windows.specs.Marked.{Parts}
 
-pub returns-in_default : goal.returns-in_default
-returns-in_default c =
-    let m = c.args.self.now in
-    record { answer = none_marked m.base m.words m.summary m.held c.requires c.in_default.ensures.answer }
+pub returns-in_err-offset-clause-answer : goal.returns-in_err-offset-clause-answer
+returns-in_err-offset-clause-answer c =
+    let m : Parts = record { base = c.self.inside.base; sets = c.self.inside.sets; summary = c.self.inside.summary; held = c.self.inside.held } in
+    rw c.from_residual.ensures (near_none c.args.self.now m c.self.view_is c.self.invariant c.in_err-offset.ensures.answer)
 
-pub returns : goal.returns
-returns c =
-    let m = c.args.self.now in
-    let k = c.in-Some.mark in
-    record { answer = subst (λ (e : Entry). First (near m) (Some e)) (sym c.entry_of.ensures.answer) (marked_first m.words m.base k.offset k.place c.requires.single c.in-Some.ensures.answer) }
+pub returns-clause-answer : goal.returns-clause-answer
+returns-clause-answer c =
+    let m : Parts = record { base = c.self.inside.base; sets = c.self.inside.sets; summary = c.self.inside.summary; held = c.self.inside.held } in
+    let low = c.in_ok-offset.ensures.answer in
+    near_first c.args.self.now m c.self.view_is c.self.invariant c.in_ok-offset.offset c.in_ok-server.server low.0 low.1 c.in_ok-server.ensures.answer

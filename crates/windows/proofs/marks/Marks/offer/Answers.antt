@@ -1,31 +1,22 @@
-use Rattle.std.proofs.lemmas.Bool.{true≢false}
-use Rattle.windows.proofs.Marking.{moved, moved_none, none_marked}
+use Rattle.std.proofs.Common.{sym, ◌∙◌}
+use Rattle.windows.proofs.Steps.{bare_near, moved_fine, near_none}
 use Rattle.windows.proofs.marks.Marks.offer.Goals as goal
-use Rattle.std.proofs.Common.{sym, ◌∙◌, arith}
+use Rattle.windows.specs.Marked.{Parts}
 
-pub mark-requires : goal.mark-requires
-mark-requires c =
-    let m = c.args.self.now in
-    let t = c.args.instant in
-    let none = c.if-self-eq0.true in
-    record {
-      sane = moved m.base m.words m.summary m.held c.requires.sane none t c.requires.early;
-      server = c.requires.server;
-      early = c.requires.early;
-      from = omega arith;
-      to = omega arith;
-      absent = moved_none m.base m.words m.summary m.held c.requires.sane none t c.args.server;
-    }
+pub invariant_of-self : goal.invariant_of-self
+invariant_of-self c =
+    let m : Parts = record { base = c.self.inside.base; sets = c.self.inside.sets; summary = c.self.inside.summary; held = c.self.inside.held } in
+    moved_fine c.args.self.now m c.self.view_is c.self.invariant c.if-self-eq0.true c.args.entry.instant c.requires.proper.2
 
-pub returns-then-self-eq0 : goal.returns-then-self-eq0
-returns-then-self-eq0 c =
-    let m = c.args.self.now in
-    let t = c.args.instant in
-    let none = c.if-self-eq0.true in
+pub mark-requires-clause-absent : goal.mark-requires-clause-absent
+mark-requires-clause-absent c =
+    let m : Parts = record { base = c.self.inside.base; sets = c.self.inside.sets; summary = c.self.inside.summary; held = c.self.inside.held } in
+    bare_near c.args.self.now m c.self.view_is c.self.invariant c.if-self-eq0.true c.args.entry.instant c.args.entry.server
+
+pub returns-then-self-eq0-clause-after : goal.returns-then-self-eq0-clause-after
+returns-then-self-eq0-clause-after c =
+    let m : Parts = record { base = c.self.inside.base; sets = c.self.inside.sets; summary = c.self.inside.summary; held = c.self.inside.held } in
+    let e = c.args.entry in
+    let empty = c.if-self-eq0.true in
     let put = c.mark.ensures.after in
-    record {
-      answer = ((λ _. c.mark.ensures.base), λ u. absurd (u none));
-      after = λ _. (put.0, λ k u. put.1 k u ∙ moved_none m.base m.words m.summary m.held c.requires.sane none t k ∙ sym (none_marked m.base m.words m.summary m.held c.requires.sane none k));
-      stays = λ e. absurd (true≢false e);
-      keeps = c.mark.ensures.keeps;
-    }
+    λ _. (put.0, λ k u. put.1 k u ∙ bare_near c.args.self.now m c.self.view_is c.self.invariant empty e.instant k ∙ sym (near_none c.args.self.now m c.self.view_is c.self.invariant empty k))

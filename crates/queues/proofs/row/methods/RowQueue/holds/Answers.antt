@@ -1,11 +1,9 @@
-use Rattle.queues.proofs.Worded.{none_at_zero}
+use Rattle.std.proofs.Common.{◌∙◌}
+use Rattle.queues.proofs.Worded.{worded_has}
 use Rattle.queues.proofs.row.methods.RowQueue.holds.Goals as goal
 use Rattle.queues.specs.Makes.{row_due, row_within}
-use Rattle.std.proofs.lemmas.Bool.{le-ltb}
-use Rattle.std.proofs.Common.{sym, ◌∙◌}
 
-pub returns-else-server-gt0 : goal.returns-else-server-gt0
-returns-else-server-gt0 c =
+pub returns : goal.returns
+returns c =
     let q = c.args.self.now in
-    let s = c.args.server in
-    record { answer = le-ltb 0 s c.if-server-gt0.false ∙ sym (none_at_zero (row_due q) s (row_within q) c.if-server-gt0.false) }
+    record { answer = c.contains.ensures.answer ∙ worded_has (row_due q) q.held c.args.server (row_within q) q.word }

@@ -1,9 +1,10 @@
-use Rattle.std.proofs.Common.{◌≡◌, suc, ◌-◌, arith}
-use Rattle.queues.proofs.Founds.{last_entry}
+use Rattle.std.proofs.Common.{◌-◌, List, length, ap, ◌∙◌}
+use Rattle.queues.proofs.Standing.{last_first}
 use Rattle.queues.proofs.row.methods.RowQueue.least.Goals as goal
+use Rattle.queues.specs.declared.entry.Entry.{Entry}
+use Rattle.std.specs.Prelude.{slice_get}
 
 pub returns : goal.returns
 returns c =
-    let q = c.args.self.now in
-    let is : q.len ≡ suc (q.len - 1) = omega arith in
-    record { answer = last_entry q.places q.len (q.len - 1) is q.falls q.apart q.bounded }
+    let same = ap (λ (xs : List Entry). slice_get xs (length xs - 1)) c.deref.ensures.0 in
+    record { answer = last_first c.args.self.now c.copied.result (c.copied.ensures ∙ c.last.ensures.value ∙ same) }

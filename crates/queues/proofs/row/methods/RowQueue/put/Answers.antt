@@ -1,61 +1,39 @@
-use Rattle.std.proofs.Common.{◌≡◌, ◌+◌, None, sym, arith}
-use Rattle.queues.proofs.Checked.{passed, put_clear}
-use Rattle.queues.proofs.Founds.{new_apart, new_bounded, new_falls, new_put, none_from, room}
+use Rattle.std.proofs.Common.{arith}
+use Rattle.queues.proofs.Checked.{put_clear}
+use Rattle.queues.proofs.Standing.{new_bounded, new_distinct, new_falls, new_good, new_put, new_room}
 use Rattle.queues.proofs.Worded.{worded_put}
 use Rattle.queues.proofs.row.methods.RowQueue.put.Goals as goal
-use Rattle.queues.specs.Checks.{put_check}
+use Rattle.queues.specs.Lists.{sought}
 use Rattle.queues.specs.Makes.{row_due}
-use Rattle.queues.specs.Rows.{found}
 use Rattle.queues.specs.declared.entry.Entry.{Entry}
-use Rattle.std.proofs.lemmas.Bool.{true≢false}
 
-pub insert-at-requires : goal.insert-at-requires
-insert-at-requires c =
+pub insert-requires : goal.insert-requires
+insert-requires c =
     let q = c.args.self.now in
-    let s = c.args.server in
-    let t = c.args.instant in
-    let ok = passed (row_due q) s t (put_clear (row_due q) s t c.holds.result c.holds.ensures.answer c.in_ok-check_put.ensures.answer) in
-    record { room = omega (arith, room q.places q.len s q.apart q.bounded ok.0 ok.1 ok.3); falls = q.falls; bounded = q.bounded }
+    let new : Entry = record { instant = c.args.instant; server = c.args.server } in
+    let checked = put_clear (row_due q) new.server new.instant c.holds.result c.holds.ensures.answer c.in_ok-check_put.ensures.answer in
+    (omega arith, (c.place_of-place.ensures.within, new_room q new checked))
 
 pub invariant_of-self : goal.invariant_of-self
 invariant_of-self c =
     let q = c.args.self.now in
-    let s = c.args.server in
-    let t = c.args.instant in
-    let xs = q.places in
-    let ys = c.insert-at.new.places in
-    let n = q.len in
-    let r = c.insert-at.result in
-    let new : Entry = record { instant = t; server = s } in
-    let ok = passed (row_due q) s t (put_clear (row_due q) s t c.holds.result c.holds.ensures.answer c.in_ok-check_put.ensures.answer) in
-    let absent = none_from xs n s ok.3 in
-    let ins = c.insert-at.ensures.after in
-    let put = new_put xs ys n r new ins absent q.apart in
-    let set = c.with_bit-self.ensures.answer in
+    let r = c.place_of-place.result in
+    let ys = c.insert.new.self.items in
+    let is = c.insert.ensures.items in
+    let new : Entry = record { instant = c.args.instant; server = c.args.server } in
+    let checked = put_clear (row_due q) new.server new.instant c.holds.result c.holds.ensures.answer c.in_ok-check_put.ensures.answer in
+    let good = new_good q new checked in
+    let set = c.insert-2.ensures.server (good.0, good.1) in
     record {
-      fits = omega (arith, room xs n s q.apart q.bounded ok.0 ok.1 ok.3);
-      falls = new_falls xs ys n r new ins absent q.falls q.bounded ok.1;
-      apart = new_apart xs ys n r new ins absent q.apart;
-      bounded = new_bounded xs ys n r new ins absent q.bounded (ok.0, ok.1, ok.2);
-      word = worded_put (found xs n) (found ys (n + 1)) q.held c.with_bit-self.result s t ok.0 put q.word (set.here (omega arith)) set.others;
+      falls = new_falls q new checked r ys is c.place_of-place.ensures.within c.place_of-place.ensures.answer;
+      apart = new_distinct q new checked r ys is;
+      bounded = new_bounded q new checked r ys is;
+      word = worded_put (row_due q) (sought ys) q.held.word c.insert-2.new.self.word new.server new.instant good.0 (new_put q new checked r ys is) q.word (set.here (omega arith)) set.others;
     }
 
-pub returns : goal.returns
-returns c =
+pub returns-clause-after : goal.returns-clause-after
+returns-clause-after c =
     let q = c.args.self.now in
-    let s = c.args.server in
-    let t = c.args.instant in
-    let xs = q.places in
-    let ys = c.insert-at.new.places in
-    let n = q.len in
-    let r = c.insert-at.result in
-    let new : Entry = record { instant = t; server = s } in
-    let checked : put_check (row_due q) s t ≡ None = put_clear (row_due q) s t c.holds.result c.holds.ensures.answer c.in_ok-check_put.ensures.answer in
-    let absent = none_from xs n s (passed (row_due q) s t checked).3 in
-    let ins = c.insert-at.ensures.after in
-    record {
-      answer = sym checked;
-      after = λ _. new_put xs ys n r new ins absent q.apart;
-      stays = λ u. absurd (true≢false u);
-      keeps = tt;
-    }
+    let new : Entry = record { instant = c.args.instant; server = c.args.server } in
+    let checked = put_clear (row_due q) new.server new.instant c.holds.result c.holds.ensures.answer c.in_ok-check_put.ensures.answer in
+    λ _. new_put q new checked c.place_of-place.result c.insert.new.self.items c.insert.ensures.items

@@ -1,37 +1,26 @@
-use Rattle.std.proofs.Common.{◌≡◌, suc, ◌-◌, get_or, arith}
-use Rattle.queues.proofs.Founds.{last_entry, last_taken}
+use Rattle.queues.proofs.Standing.{last_first, taken, taken_bounded, taken_distinct, taken_falls}
 use Rattle.queues.proofs.Worded.{worded_taken}
 use Rattle.queues.proofs.row.methods.RowQueue.take.Goals as goal
-use Rattle.queues.specs.Entries.{nobody}
-use Rattle.queues.specs.Rows.{found}
-use Rattle.std.proofs.lemmas.Bool.{true≢false}
+use Rattle.queues.specs.Lists.{sought}
+use Rattle.queues.specs.Makes.{row_due}
 
-pub invariant_of-self : goal.invariant_of-self
-invariant_of-self c =
+pub invariant_of-self-2 : goal.invariant_of-self-2
+invariant_of-self-2 c =
     let q = c.args.self.now in
-    let xs = q.places in
-    let n = q.len in
-    let is : n ≡ suc (n - 1) = omega arith in
-    let took = last_taken xs n (n - 1) is q.falls q.apart q.bounded in
-    let bound = q.bounded (n - 1) (omega arith) in
-    let cleared = c.without_bit-self.ensures.answer in
+    let ys = c.pop.new.self.items in
+    let x = c.in_ok-first.first in
+    let is = c.in_ok-first.ensures.items in
+    let b = taken_bounded q ys x is in
+    let cleared = c.remove.ensures.server (b.0.0, b.0.1) in
     record {
-      fits = omega arith;
-      falls = λ i j l m. q.falls i j l (omega arith);
-      apart = λ i j l. q.apart i j (l.0, omega arith);
-      bounded = λ i l. q.bounded i (omega arith);
-      word = worded_taken (found xs n) (found xs (n - 1)) q.held c.without_bit-self.result (get_or xs (n - 1) nobody) bound.0 took q.word cleared.here cleared.others;
+      falls = taken_falls q ys x is;
+      apart = taken_distinct q ys x is;
+      bounded = b.1;
+      word = worded_taken (row_due q) (sought ys) q.held.word c.remove.new.self.word x b.0.0 (taken q ys x is) q.word cleared.here cleared.others;
     }
 
-pub returns : goal.returns
-returns c =
-    let q = c.args.self.now in
-    let xs = q.places in
-    let n = q.len in
-    let is : n ≡ suc (n - 1) = omega arith in
-    record {
-      answer = last_entry xs n (n - 1) is q.falls q.apart q.bounded;
-      after = last_taken xs n (n - 1) is q.falls q.apart q.bounded;
-      stays = λ u. absurd (true≢false u);
-      keeps = tt;
-    }
+pub returns-clause-answer : goal.returns-clause-answer
+returns-clause-answer c = last_first c.args.self.now _ c.in_ok-first.ensures.value
+
+pub returns-clause-after : goal.returns-clause-after
+returns-clause-after c = taken c.args.self.now c.pop.new.self.items c.in_ok-first.first c.in_ok-first.ensures.items

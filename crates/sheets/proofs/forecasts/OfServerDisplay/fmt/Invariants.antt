@@ -1,0 +1,9 @@
+use Rattle.sheets.proofs.forecasts.OfServerDisplay.fmt.Given as goal
+use Rattle.sheets.specs.Forecasts.{forecast_line_of}
+use Rattle.std.proofs.Common.{take}
+use Rattle.std.specs.Fmt.{HasWritten, IsPlainFormatter}
+use Rattle.std.specs.List.{flat_map}
+
+abbrev pub invariant-loop-action : goal.invariant-loop-action
+invariant-loop-action g l =
+    IsPlainFormatter l.initial.f → HasWritten g.W.Write.write_str_gives l.initial.f (flat_map (forecast_line_of l.server) (take l.action-index l.action-items)) l.f
