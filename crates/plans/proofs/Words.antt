@@ -1,67 +1,40 @@
 -- Numbers and records in bytes: read and written back they are the same.
-use Rattle.std.proofs.Common.{◌≡◌, ℕ, zero, suc, ◌+◌, ◌*◌, ◌/◌, ◌%◌, ◌^◌, ◌<◌, ◌≤◌, List, [], ◌∷◌, ◌++◌, map, length, get_or, take, drop, sym, refl, ap, ◌∙◌, arith}
+use Rattle.std.proofs.Common.{◌≡◌, ℕ, zero, suc, ◌+◌, ◌*◌, ◌^◌, ◌<◌, ◌≤◌, List, [], ◌∷◌, ◌++◌, map, length, get_or, take, drop, sym, refl, ap, ◌∙◌, arith}
 use Rattle.plans.specs.Faults.{records}
-use Rattle.plans.specs.Records.{pair, record_at, record_bytes, word, word_bytes}
+use Rattle.plans.specs.Records.{pair, record_at, record_bytes, word}
 use Rattle.plans.specs.declared.record.Record.{Record}
-use Rattle.std.proofs.lemmas.Nat.{div-add-mod'}
+use Rattle.std.proofs.lemmas.Nat.{from_le_bytes-to_le_bytes_2, from_le_bytes-to_le_bytes_4, le_bytes_2, le_bytes_4}
 use Rattle.std.proofs.lemmas.List.FromFn.{get_or-map-range_with_len, length-map-range_with_len}
-use Rattle.std.proofs.lemmas.List.{drop-drop, drop_more, drop-take, get_or-drop, get_or-take, length-append, length-take-le, same_lists, take_all, take-append-drop, take-take}
+use Rattle.std.proofs.lemmas.List.{drop-drop, drop_more, drop-take, get_or-drop, get_or-take, length-append, length-drop, length-take-le, same_lists, take_all, take-append-drop, take-take}
+use Rattle.std.specs.Int.{from_le_bytes, to_le_bytes, w16, w32}
 use Rattle.std.specs.List.{range_with_len, flat_map, AllByRecursion as All}
 
-byte_0 : (n a b c d : ℕ) → n ≡ a + b * 256 + c * 65536 + d * 16777216 → a < 256 → n % 256 ≡ a
-byte_0 n a b c d e ha = omega arith
-
-byte_1 : (n a b c d : ℕ) → n ≡ a + b * 256 + c * 65536 + d * 16777216 → a < 256 → b < 256 → n / 256 % 256 ≡ b
-byte_1 n a b c d e ha hb = let q : n / 256 ≡ b + c * 256 + d * 65536 = omega arith in omega arith
-
-byte_2 : (n a b c d : ℕ) → n ≡ a + b * 256 + c * 65536 + d * 16777216 → a < 256 → b < 256 → c < 256 → n / 65536 % 256 ≡ c
-byte_2 n a b c d e ha hb hc = let q : n / 65536 ≡ c + d * 256 = omega arith in omega arith
-
-byte_3 : (n a b c d : ℕ) → n ≡ a + b * 256 + c * 65536 + d * 16777216 → a < 256 → b < 256 → c < 256 → d < 256 → n / 16777216 % 256 ≡ d
-byte_3 n a b c d e ha hb hc hd = let q : n / 16777216 ≡ d = omega arith in omega arith
-
-pair_high : (n a b : ℕ) → n ≡ a + b * 256 → a < 256 → b < 256 → n / 256 % 256 ≡ b
-pair_high n a b e ha hb = let q : n / 256 ≡ b = omega arith in omega arith
-
--- the four bytes that a number was read from
-bytes_of_word : (a b c d : ℕ) → a < 256 → b < 256 → c < 256 → d < 256 → word_bytes (a + b * 256 + c * 65536 + d * 16777216) ≡ a ∷ b ∷ c ∷ d ∷ []
-bytes_of_word a b c d ha hb hc hd =
-    let p = byte_0 _ a b c d refl ha in
-    let q = byte_1 _ a b c d refl ha hb in
-    let r = byte_2 _ a b c d refl ha hb hc in
-    let s = byte_3 _ a b c d refl ha hb hc hd in
-    cc
-
--- the number that four bytes write
-word_of_bytes : (n : ℕ) → n < 2 ^ 32 → n % 256 + n / 256 % 256 * 256 + n / 65536 % 256 * 65536 + n / 16777216 % 256 * 16777216 ≡ n
-word_of_bytes n h =
-    let p : n / 65536 ≡ n / 256 / 256 = omega arith in
-    let q : n / 16777216 ≡ n / 256 / 256 / 256 = omega arith in
-    let r : n / 256 / 256 / 256 % 256 ≡ n / 256 / 256 / 256 = omega arith in
-    rw (p, q, r) (omega (arith, div-add-mod' n 256, div-add-mod' (n / 256) 256, div-add-mod' (n / 256 / 256) 256))
-
--- the next four of a list
-next_four : (xs : List ℕ) (i : ℕ) → i + 4 ≤ length xs → take 4 (drop i xs) ≡ get_or xs i 0 ∷ get_or xs (i + 1) 0 ∷ get_or xs (i + 2) 0 ∷ get_or xs (i + 3) 0 ∷ []
-next_four xs i h =
-    let two : i + 1 + 1 ≡ i + 2 = omega arith in
-    let three : i + 1 + 1 + 1 ≡ i + 3 = omega arith in
-    rw (drop_more xs i 0 (omega arith), drop_more xs (i + 1) 0 (omega arith), drop_more xs (i + 1 + 1) 0 (omega arith), drop_more xs (i + 1 + 1 + 1) 0 (omega arith)) (cc)
+small_take : (n : ℕ) (xs : List ℕ) → ((k : ℕ) → get_or xs k 0 < 256) → (k : ℕ) → get_or (take n xs) k 0 < 256
+small_take zero xs s k = omega arith
+small_take (suc n) [] s k = omega arith
+small_take (suc n) (x ∷ xs) s zero = s 0
+small_take (suc n) (x ∷ xs) s (suc k) = small_take n xs (λ j. s (suc j)) k
 
 take_split : {X : Type 0} (m n : ℕ) (xs : List X) → take (m + n) xs ≡ take m xs ++ take n (drop m xs)
 take_split m n xs =
     sym (take-append-drop m (take (m + n) xs)) ∙ (λ i. take-take m (m + n) xs (omega arith) i ++ drop-take m n xs i)
 
 module _ (bytes : List ℕ) (small : (i : ℕ) → get_or bytes i 0 < 256) where
-  word_bytes_lem : (i : ℕ) → i + 4 ≤ length bytes → word_bytes (word bytes i) ≡ take 4 (drop i bytes)
-  word_bytes_lem i h = bytes_of_word _ _ _ _ (small i) (small (i + 1)) (small (i + 2)) (small (i + 3)) ∙ sym (next_four bytes i h)
+  part_small : (n i k : ℕ) → get_or (take n (drop i bytes)) k 0 < 256
+  part_small n i = small_take n (drop i bytes) (λ k. rw (get_or-drop i bytes k 0) (small (i + k)))
 
-  first_four : (i : ℕ) → i + 4 ≤ length bytes → get_or bytes i 0 ∷ get_or bytes (i + 1) 0 ∷ pair bytes (i + 2) % 256 ∷ pair bytes (i + 2) / 256 % 256 ∷ [] ≡ take 4 (drop i bytes)
+  part_long : (n i : ℕ) → i + n ≤ length bytes → length (take n (drop i bytes)) ≡ n
+  part_long n i h = length-take-le n (drop i bytes) (omega (arith, length-drop i bytes))
+
+  -- the four bytes that a number was read from
+  word_back : (i : ℕ) → i + 4 ≤ length bytes → to_le_bytes w32 (word bytes i) ≡ take 4 (drop i bytes)
+  word_back i h = le_bytes_4 (take 4 (drop i bytes)) _ (part_long 4 i h) (part_small 4 i) refl
+
+  first_four : (i : ℕ) → i + 4 ≤ length bytes → get_or bytes i 0 ∷ get_or bytes (i + 1) 0 ∷ to_le_bytes w16 (pair bytes (i + 2)) ≡ take 4 (drop i bytes)
   first_four i h =
-      let three : i + 2 + 1 ≡ i + 3 = omega arith in
-      let low : pair bytes (i + 2) % 256 ≡ get_or bytes (i + 2) 0 = omega (arith, small (i + 2), small (i + 2 + 1)) in
-      let high = pair_high _ _ _ refl (small (i + 2)) (small (i + 2 + 1)) in
-      let four = next_four bytes i h in
-      cc
+      let two : i + 1 + 1 ≡ i + 2 = omega arith in
+      let back = le_bytes_2 (take 2 (drop (i + 2) bytes)) _ (part_long 2 (i + 2) (omega arith)) (part_small 2 (i + 2)) refl in
+      rw (drop_more bytes i 0 (omega arith), drop_more bytes (i + 1) 0 (omega arith), two) (ap (λ l. get_or bytes i 0 ∷ get_or bytes (i + 1) 0 ∷ l) back)
 
   next : (m i j : ℕ) → j ≡ i + 4 → take (4 + m) (drop i bytes) ≡ take 4 (drop i bytes) ++ take m (drop j bytes)
   next m i j e = take_split 4 m (drop i bytes) ∙ ap (λ l. take 4 (drop i bytes) ++ take m l) (drop-drop 4 i bytes ∙ ap (λ k. drop k bytes) (sym e))
@@ -70,9 +43,9 @@ module _ (bytes : List ℕ) (small : (i : ℕ) → get_or bytes i 0 < 256) where
   record_bytes_lem : (a : ℕ) → 16 * a + 16 ≤ length bytes → record_bytes (record_at bytes a) ≡ take 16 (drop (16 * a) bytes)
   record_bytes_lem a h =
       let heads = first_four (16 * a) (omega arith) in
-      let one = word_bytes_lem (16 * a + 4) (omega arith) in
-      let two = word_bytes_lem (16 * a + 8) (omega arith) in
-      let three = word_bytes_lem (16 * a + 12) (omega arith) in
+      let one = word_back (16 * a + 4) (omega arith) in
+      let two = word_back (16 * a + 8) (omega arith) in
+      let three = word_back (16 * a + 12) (omega arith) in
       (λ i. heads i ++ (one i ++ (two i ++ three i)))
       ∙ sym (next 12 (16 * a) (16 * a + 4) refl
       ∙ ap (λ l. take 4 (drop (16 * a) bytes) ++ l) (next 8 (16 * a + 4) (16 * a + 8) (omega arith)
@@ -105,26 +78,24 @@ pub record Fit (r : Record) : Type 0 where
 -- the first record, read back
 record_back : (r : Record) (rest : List ℕ) → Fit r → record_at (record_bytes r ++ rest) 0 ≡ r
 record_back r rest f =
-    let z : r.zeros % 256 + r.zeros / 256 % 256 * 256 ≡ r.zeros = omega (arith, f.zeros_fit, div-add-mod' r.zeros 256) in
     λ i. record {
       kind = r.kind;
       number = r.number;
-      zeros = z i;
-      first = word_of_bytes r.first f.first_fits i;
-      second = word_of_bytes r.second f.second_fits i;
-      third = word_of_bytes r.third f.third_fits i;
+      zeros = from_le_bytes-to_le_bytes_2 r.zeros f.zeros_fit i;
+      first = from_le_bytes-to_le_bytes_4 r.first f.first_fits i;
+      second = from_le_bytes-to_le_bytes_4 r.second f.second_fits i;
+      third = from_le_bytes-to_le_bytes_4 r.third f.third_fits i;
     }
 
 module _ (bytes : List ℕ) where
+  later : (m n : ℕ) → n ≡ 16 + m → drop n bytes ≡ drop m (drop 16 bytes)
+  later m n e = ap (λ k. drop k bytes) e ∙ sym (drop-drop m 16 bytes)
+
   shift : (m n : ℕ) → n ≡ 16 + m → get_or bytes n 0 ≡ get_or (drop 16 bytes) m 0
   shift m n e = ap (λ k. get_or bytes k 0) e ∙ sym (get_or-drop 16 bytes m 0)
 
-  pair_shift : (m n : ℕ) → n ≡ 16 + m → pair bytes n ≡ pair (drop 16 bytes) m
-  pair_shift m n e = λ i. shift m n e i + shift (m + 1) (n + 1) (omega arith) i * 256
-
   word_shift : (m n : ℕ) → n ≡ 16 + m → word bytes n ≡ word (drop 16 bytes) m
-  word_shift m n e =
-      λ i. shift m n e i + shift (m + 1) (n + 1) (omega arith) i * 256 + shift (m + 2) (n + 2) (omega arith) i * 65536 + shift (m + 3) (n + 3) (omega arith) i * 16777216
+  word_shift m n e = ap (λ l. from_le_bytes w32 (take 4 l)) (later m n e)
 
   -- the records after the first are those of the bytes after it
   record_later : (j : ℕ) → record_at bytes (suc j) ≡ record_at (drop 16 bytes) j
@@ -132,7 +103,7 @@ module _ (bytes : List ℕ) where
       λ i. record {
         kind = shift (16 * j) (16 * suc j) (omega arith) i;
         number = shift (16 * j + 1) (16 * suc j + 1) (omega arith) i;
-        zeros = pair_shift (16 * j + 2) (16 * suc j + 2) (omega arith) i;
+        zeros = from_le_bytes w16 (take 2 (later (16 * j + 2) (16 * suc j + 2) (omega arith) i));
         first = word_shift (16 * j + 4) (16 * suc j + 4) (omega arith) i;
         second = word_shift (16 * j + 8) (16 * suc j + 8) (omega arith) i;
         third = word_shift (16 * j + 12) (16 * suc j + 12) (omega arith) i;

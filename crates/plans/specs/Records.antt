@@ -1,14 +1,15 @@
 -- The 16 bytes of a record, as they are read and as they are written.
-use Rattle.std.specs.Prelude.{ℕ, ◌+◌, ◌*◌, ◌/◌, ◌%◌, List, [], ◌∷◌, ◌++◌, slice_index}
+use Rattle.std.specs.Prelude.{ℕ, ◌+◌, ◌*◌, List, ◌∷◌, ◌++◌, take, drop, slice_index}
 use Rattle.plans.specs.declared.record.Record.{Record}
+use Rattle.std.specs.Int.{from_le_bytes, to_le_bytes, w16, w32}
 
--- the little-endian number in the two bytes from i on
+-- the number in the two bytes from i on, the low byte first
 abbrev pub pair : List ℕ → ℕ → ℕ
-pair bytes i = slice_index bytes i + slice_index bytes (i + 1) * 256
+pair bytes i = from_le_bytes w16 (take 2 (drop i bytes))
 
--- the little-endian number in the four bytes from i on
+-- the number in the four bytes from i on
 abbrev pub word : List ℕ → ℕ → ℕ
-word bytes i = slice_index bytes i + slice_index bytes (i + 1) * 256 + slice_index bytes (i + 2) * 65536 + slice_index bytes (i + 3) * 16777216
+word bytes i = from_le_bytes w32 (take 4 (drop i bytes))
 
 -- the record at a place, counted from 0
 abbrev pub record_at : List ℕ → ℕ → Record
@@ -21,11 +22,7 @@ record_at bytes place = record {
   third = word bytes (16 * place + 12);
 }
 
--- a number in four bytes, the low byte first
-abbrev pub word_bytes : ℕ → List ℕ
-word_bytes n = n % 256 ∷ n / 256 % 256 ∷ n / 65536 % 256 ∷ n / 16777216 % 256 ∷ []
-
 -- a record as it is written
 abbrev pub record_bytes : Record → List ℕ
 record_bytes r =
-    (r.kind ∷ r.number ∷ r.zeros % 256 ∷ r.zeros / 256 % 256 ∷ []) ++ (word_bytes r.first ++ (word_bytes r.second ++ word_bytes r.third))
+    (r.kind ∷ r.number ∷ to_le_bytes w16 r.zeros) ++ (to_le_bytes w32 r.first ++ (to_le_bytes w32 r.second ++ to_le_bytes w32 r.third))

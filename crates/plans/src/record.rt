@@ -16,13 +16,12 @@ pub struct Record {
     pub third: u32,
 }
 
-// The little-endian number in the four bytes from `at` on. Each byte is named: a slice of them would have to become an
-// array first, by a conversion that can fail.
+// The number in the four bytes from `at` on, the low byte first.
 pub fn word_at(bytes: &[u8], at: usize) -> u32
     requires { at + 4 ≤ length bytes.now }
     ensures answer { result ≡ word bytes.now at }
 {
-    u32::from_le_bytes([bytes[at], bytes[at + 1], bytes[at + 2], bytes[at + 3]])
+    u32::from_le_bytes(bytes[at..at + 4].try_into().unwrap())
 }
 
 impl Record {
@@ -35,7 +34,7 @@ impl Record {
         Record {
             kind: bytes[at],
             number: bytes[at + 1],
-            zeros: u16::from_le_bytes([bytes[at + 2], bytes[at + 3]]),
+            zeros: u16::from_le_bytes(bytes[at + 2..at + 4].try_into().unwrap()),
             first: word_at(bytes, at + 4),
             second: word_at(bytes, at + 8),
             third: word_at(bytes, at + 12),
