@@ -30,6 +30,7 @@ impl<R: ReleaseRule, Q: Queue, C: Queue> Board<R, Q, C> {
     ghost use Rattle.board.specs.Boards.{model};
 
     // A board at instant 0 without servers. Every entry is first taken out of both queues.
+    #[inline]
     pub fn new(rule: R, ready: Q, calendar: C) -> Board<R, Q, C>
         ensures answer { model result ≡ fresh }
         ensures rule { result.rule ≡ rule }

@@ -7,9 +7,14 @@ ghost use Rattle.std.specs.Prelude.{◌≡◌, ◌≤◌, Some, None};
 use queues::{Entry, Queue};
 
 // Takes every entry out.
+#[inline]
 pub(crate) fn clear<Q: Queue>(queue: &mut Q)
     ensures after { Empty (Q.due queue.new) }
 {
+    // Of a new queue the compiler sees here that it is empty, and no loop is left.
+    if queue.least().is_none() {
+        return;
+    }
     while let Some(_e) = queue.take() {}
 }
 

@@ -7,7 +7,7 @@ use crate::heap::Heap;
 use crate::order::Strict;
 
 // Gives the first of the entries held, in an order in which no two stand level.
-pub fn take_first<E: Strict + Copy>(heap: &mut Heap<'_, E>) -> Option<E>
+pub fn take_first<E: Strict>(heap: &mut Heap<'_, E>) -> Option<E>
     ensures answer { TakenFirst heap.old heap.new result }
     ensures space { room heap.new ≡ room heap.old }
 {

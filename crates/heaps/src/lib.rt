@@ -8,7 +8,7 @@ mod sifts;
 
 pub use first::take_first;
 pub use heap::Heap;
-pub use order::Strict;
+pub use order::{Ordered, Strict};
 
 #[cfg(test)]
 mod tests;

@@ -5,7 +5,7 @@
 ghost use Rattle.packs.specs.Items.{Split};
 
 use std::alloc::AllocError;
-use std::{fs, io};
+use std::fs;
 
 mod items;
 
@@ -24,7 +24,7 @@ pub fn print_cases<F: Fn(&[u8]) -> Result<String, AllocError>>(
     rt: &HostRuntime,
     path: &str,
     text_of: F,
-) -> io::Result<()>
+) -> anyhow::Result<()>
     requires { F.IsAlwaysCallable text_of }
 {
     let pack = fs::read(rt, path)?;

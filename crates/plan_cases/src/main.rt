@@ -6,8 +6,7 @@ use packs::print_cases;
 fn run(rt: &HostRuntime) -> anyhow::Result<()> {
     print_cases(rt, "plans.pack", |plan| {
         sheets::output(rt.alloc(), plan, &[])
-    })?;
-    Ok(())
+    })
 }
 
 fn main(rt: HostRuntime) -> anyhow::Result<()> {

@@ -3,9 +3,7 @@ use Rattle.std.proofs.Common.{◌≡◌, ℕ, ◌<◌, true, List, [], ◌∷◌
 use Rattle.heaps.specs.Answers as heap
 use Rattle.heaps.specs.Held.{Leads, held, room}
 use Rattle.heaps.specs.declared.heap.Heap.{Heap}
-use Rattle.std.specs.declared.cmp.Ord as ord
-use Rattle.std.specs.declared.cmp.PartialEq as eq
-use Rattle.std.specs.declared.cmp.PartialOrd as partial_ord
+use Rattle.heaps.specs.declared.order.Ordered as ordered
 use Rattle.limits.specs.declared.refusal.Refusal.{Refusal}
 use Rattle.queues.proofs.Checked.{passed}
 use Rattle.queues.proofs.Sought.{has_some, room_left}
@@ -43,7 +41,7 @@ first_least q None d l = first_none (held q.heap) l
 first_least q (Some x) d l = first_some (held q.heap) x d l.1 l.0
 
 -- a heap that is not full takes the entry
-put_some : {o : ord.Ghosts Entry} {e : eq.Ghosts Entry} {p : partial_ord.Ghosts Entry} (x : Entry) (old new : Heap Entry o e p) (r : Result (Unit {0}) Refusal) → heap.Put x old new r → length (held old) < room old → IsPermutation (x ∷ held old) (held new)
+put_some : {g : ordered.Ghosts Entry} (x : Entry) (old new : Heap Entry g) (r : Result (Unit {0}) Refusal) → heap.Put x old new r → length (held old) < room old → IsPermutation (x ∷ held old) (held new)
 put_some x old new (Ok u) p l = p.1
 put_some x old new (Err e) p l = absurd (omega (arith, p.1))
 

@@ -9,8 +9,7 @@ const NO_SERVERS: [u8; 16] = [0, 0, 0, 0, 1, 0, 0, 0, 0, 0, 0, 0, 0, 0, 0, 0];
 fn run(rt: &HostRuntime) -> anyhow::Result<()> {
     print_cases(rt, "scripts.pack", |script| {
         sheets::output(rt.alloc(), &NO_SERVERS, script)
-    })?;
-    Ok(())
+    })
 }
 
 fn main(rt: HostRuntime) -> anyhow::Result<()> {

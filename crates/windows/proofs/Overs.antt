@@ -10,7 +10,7 @@ use Rattle.queues.specs.declared.queue.Queue.{Ghosts}
 use Rattle.std.proofs.Props.{props}
 use Rattle.windows.proofs.Joined.{leads, neither}
 use Rattle.windows.specs.Both.{Apart, marks_lead_of}
-use Rattle.windows.specs.Marked.{near}
+use Rattle.windows.specs.Marked.{Sane, near}
 use Rattle.windows.specs.Windows.{over}
 use Rattle.windows.specs.declared.window.Window.{Window}
 use mathlib.Core.HLevel.{is_prop→PathP}
@@ -21,6 +21,7 @@ module _ {X : Type 0} {q : Ghosts X} where
     marks = m i;
     below = b i;
     within = is_prop→PathP (λ j. Within (near (m j))) (λ j. hlevel props) v.within w.within i;
+    sane = is_prop→PathP (λ j. Sane (m j)) (λ j. hlevel props) v.sane w.sane i;
     apart = is_prop→PathP (λ j. Apart (near (m j)) (q.due (b j))) (λ j. hlevel props) v.apart w.apart i;
   }
 

@@ -58,6 +58,10 @@ pub record Fine (base : ℕ) (sets : List ServerSet) (summary : ℕ) (held : Ser
   pub placed : Placed sets base
   pub gathered : Worded (marked sets base) held.word
 
+-- the same, of the parts
+abbrev pub Sane : Parts → Type 0
+Sane m = Fine m.base m.sets m.summary m.held
+
 -- the last of the sets has the bit
 pub spot_hit : (sets : List ServerSet) (base n p : ℕ) → at sets n p ≡ 1 → spot sets base (suc n) p ≡ Some (base + n)
 spot_hit sets base n p e = cond-true (at sets n p == 1) (Some (base + n)) (spot sets base n p) (eq-eqb (at sets n p) 1 e)

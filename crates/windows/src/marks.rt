@@ -3,7 +3,7 @@ ghost use Rattle.std.specs.Prelude.{◌≡◌, ℕ, ◌+◌, ◌<◌, ◌≤◌,
 ghost use Rattle.bits.specs.Words.{bit};
 ghost use Rattle.queues.specs.Dues.{Empty, First, Put, Taken};
 ghost use Rattle.queues.specs.Entries.{Proper};
-ghost use Rattle.windows.specs.Marked.{near};
+ghost use Rattle.windows.specs.Marked.{Sane, near};
 ghost use Rattle.windows.specs.Offers.{Offered};
 
 use bits::{ServerSet, lowest, with_bit, without_bit};
@@ -52,6 +52,7 @@ impl Marks {
     // No marks.
     pub(crate) fn new() -> Marks
         ensures answer { Empty (near result) }
+        ensures keeps { Sane result }
     {
         Marks {
             base: 0,
@@ -69,6 +70,7 @@ impl Marks {
         requires absent { near self.old entry.server ≡ None }
         ensures after { Put (near self.old) (near self.new) entry.server entry.instant }
         ensures base { self.new.base ≡ self.old.base }
+        ensures keeps { Sane self.new }
     {
         let offset = (entry.instant - self.base) as usize;
         self.sets[offset].insert(entry.server);
@@ -82,6 +84,7 @@ impl Marks {
         requires to { entry.instant < self.old.base + 64 }
         requires stands { near self.old entry.server ≡ Some entry.instant }
         ensures after { Taken (near self.old) (near self.new) (Some entry) }
+        ensures keeps { Sane self.new }
     {
         let offset = (entry.instant - self.base) as usize;
         self.sets[offset].remove(entry.server);
@@ -96,6 +99,7 @@ impl Marks {
         ensures answer { Offered self.old self.new entry.instant result }
         ensures after { result ≡ true → Put (near self.old) (near self.new) entry.server entry.instant }
         ensures stays { result ≡ false → self.new ≡ self.old }
+        ensures keeps { Sane self.new }
     {
         if self.summary == 0 {
             self.base = entry.instant;
@@ -113,6 +117,7 @@ impl Marks {
     pub(crate) fn least(&self) -> Option<Entry>
         ensures answer { First (near self.now) result }
         ensures inside { IfSome result (λ e. (self.now.base ≤ e.instant) × (e.instant < self.now.base + 64)) }
+        ensures keeps { Sane self.now }
     {
         let offset = lowest(self.summary)?;
         let server = self.sets[offset as usize].first()?;
@@ -127,6 +132,7 @@ impl Marks {
         ensures answer { First (near self.old) result }
         ensures after { Taken (near self.old) (near self.new) result }
         ensures stays { is_some result ≡ false → self.new ≡ self.old }
+        ensures keeps { Sane self.new }
     {
         let first = self.least()?;
         self.clear(first);

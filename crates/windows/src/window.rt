@@ -1,7 +1,7 @@
 // Marks over a queue.
 ghost use Rattle.queues.specs.Dues.{Within};
 ghost use Rattle.windows.specs.Both.{Apart};
-ghost use Rattle.windows.specs.Marked.{near};
+ghost use Rattle.windows.specs.Marked.{Sane, near};
 
 use crate::marks::Marks;
 use queues::Queue;
@@ -14,5 +14,6 @@ pub struct Window<Q: Queue> {
     marks: Marks,
     below: Q,
     ghost within: { Within (near marks) },
+    ghost sane: { Sane marks },
     ghost apart: { Apart (near marks) (Q.due below) },
 }

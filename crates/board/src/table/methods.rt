@@ -19,6 +19,7 @@ use slots::{Closed, ServerSet, Sets, Slot};
 
 impl<Q: Queue, C: Queue> Table<Q, C> {
     // A table without servers. Every entry is first taken out of both queues.
+    #[inline]
     pub(crate) fn new(mut ready: Q, mut calendar: C) -> Table<Q, C>
         ensures slots { result.slots ≡ replicate 64 Absent }
     {

@@ -5,10 +5,11 @@ ghost use Rattle.heaps.specs.Answers.{Least, Put, Taken};
 ghost use Rattle.std.specs.Prelude.{◌≡◌, [], length};
 
 use super::Heap;
+use crate::order::Ordered;
 use crate::sifts::{move_first, sift_up};
 use limits::Refusal;
 
-impl<'a, E: Ord + Copy> Heap<'a, E> {
+impl<'a, E: Ordered> Heap<'a, E> {
     // A heap without entries over the memory, whatever it holds.
     pub fn new(places: &'a mut [E]) -> Heap<'a, E>
         ensures answer { held result ≡ [] }

@@ -3,8 +3,9 @@ ghost use Rattle.heaps.specs.Held.{held, room};
 ghost use Rattle.std.specs.Prelude.{◌≡◌, length, ◌==◌};
 
 use super::Heap;
+use crate::order::Ordered;
 
-impl<'a, E: Ord + Copy> Heap<'a, E> {
+impl<'a, E: Ordered> Heap<'a, E> {
     // How many entries it holds.
     pub fn len(&self) -> usize
         ensures answer { result ≡ length (held self.now) }

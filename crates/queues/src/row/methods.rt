@@ -28,6 +28,12 @@ impl Row {
         ensures within { result ≤ length self.now.entries.items }
         ensures answer { IsPlace self.now.entries.items new.now result }
     {
+        let Some(first) = self.entries.last() else {
+            return 0;
+        };
+        if new <= first {
+            return self.entries.len();
+        }
         self.entries.partition_point(|entry| new <= entry)
     }
 }

@@ -23,16 +23,24 @@ invariant_of-self c =
     clearing_fine c.args.self.now m c.self.view_is c.self.invariant e w c.resummed-self-inside.result c.remove-2.new.self (omega arith)
     c.requires.stands (c.remove.ensures.server s.server) (sum.here ∙ ap (min 1) (word_here m.sets (off m e) w inside)) sum.others (c.remove-2.ensures.server s.server)
 
-pub returns : goal.returns
-returns c =
+pub returns-clause-after : goal.returns-clause-after
+returns-clause-after c =
     let m : Parts = record { base = c.self.inside.base; sets = c.self.inside.sets; summary = c.self.inside.summary; held = c.self.inside.held } in
     let e = c.args.entry in
     let w = c.remove.new.self in
     let s = standing c.args.self.now m c.self.view_is c.self.invariant e c.requires.stands in
     let inside : off m e < length m.sets = omega (arith, s.short) in
     let sum = c.resummed-self-inside.ensures in
-    record {
-      after =
-          clearing_taken c.args.self.now m c.self.view_is c.self.invariant e w c.resummed-self-inside.result c.remove-2.new.self (omega arith)
-          c.requires.stands (c.remove.ensures.server s.server) (sum.here ∙ ap (min 1) (word_here m.sets (off m e) w inside)) sum.others (c.remove-2.ensures.server s.server);
-    }
+    clearing_taken c.args.self.now m c.self.view_is c.self.invariant e w c.resummed-self-inside.result c.remove-2.new.self (omega arith)
+    c.requires.stands (c.remove.ensures.server s.server) (sum.here ∙ ap (min 1) (word_here m.sets (off m e) w inside)) sum.others (c.remove-2.ensures.server s.server)
+
+pub returns-clause-keeps : goal.returns-clause-keeps
+returns-clause-keeps c =
+    let m : Parts = record { base = c.self.inside.base; sets = c.self.inside.sets; summary = c.self.inside.summary; held = c.self.inside.held } in
+    let e = c.args.entry in
+    let w = c.remove.new.self in
+    let s = standing c.args.self.now m c.self.view_is c.self.invariant e c.requires.stands in
+    let inside : off m e < length m.sets = omega (arith, s.short) in
+    let sum = c.resummed-self-inside.ensures in
+    clearing_fine c.args.self.now m c.self.view_is c.self.invariant e w c.resummed-self-inside.result c.remove-2.new.self (omega arith)
+    c.requires.stands (c.remove.ensures.server s.server) (sum.here ∙ ap (min 1) (word_here m.sets (off m e) w inside)) sum.others (c.remove-2.ensures.server s.server)

@@ -19,3 +19,11 @@ returns-clause-after c =
     let s : IsServer c.args.entry.server = (proper.0, proper.1) in
     marking_put c.args.self.now m c.self.view_is c.self.invariant c.args.entry c.insert.new.self c.with_bit-self-inside.result c.insert-2.new.self (omega arith)
     proper c.requires.from c.requires.to c.requires.absent (c.insert.ensures.server s) c.with_bit-self-inside.ensures.answer (c.insert-2.ensures.server s)
+
+pub returns-clause-keeps : goal.returns-clause-keeps
+returns-clause-keeps c =
+    let m : Parts = record { base = c.self.inside.base; sets = c.self.inside.sets; summary = c.self.inside.summary; held = c.self.inside.held } in
+    let proper = c.requires.proper in
+    let s : IsServer c.args.entry.server = (proper.0, proper.1) in
+    marking_fine c.args.self.now m c.self.view_is c.self.invariant c.args.entry c.insert.new.self c.with_bit-self-inside.result c.insert-2.new.self (omega arith)
+    proper c.requires.from c.requires.to c.requires.absent (c.insert.ensures.server s) c.with_bit-self-inside.ensures.answer (c.insert-2.ensures.server s)

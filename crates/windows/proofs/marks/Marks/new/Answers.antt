@@ -5,4 +5,4 @@ pub invariant_of-result : goal.invariant_of-result
 invariant_of-result c = blank_fine
 
 pub returns : goal.returns
-returns c = record { answer = bare_marked blanks blank 0 }
+returns c = record { answer = bare_marked blanks blank 0; keeps = blank_fine }

@@ -15,6 +15,7 @@ invariant_of-self g c =
     let put = c.offer.ensures.after c.if-offer.true in
     record {
       within = within_put (near w.marks) (near c.offer.new.self) s t ok.server.0 ok.server.1 ok.early w.within put;
+      sane = c.offer.ensures.keeps;
       apart = put_first_apart (near w.marks) (g.Q.Queue.due w.below) (near c.offer.new.self) s t w.apart ok.absent put;
     }
 
@@ -37,7 +38,7 @@ invariant_of-self-2 g c =
     let ok = clear w s t c.holds.result c.holds.ensures.answer c.in_ok-check_put.ensures.answer in
     let accepted : result_err c.put.result ≡ None = c.put.ensures.answer ∙ ok.below_checked in
     let put : Put (due w.below) (due c.put.new.self) s t = c.put.ensures.after (ok_none c.put.result accepted) in
-    rw (c.offer.ensures.stays c.if-offer.false) (record { within = w.within; apart = put_second_apart (near w.marks) (due w.below) (due c.put.new.self) s t w.apart ok.unmarked put })
+    rw (c.offer.ensures.stays c.if-offer.false) (record { within = w.within; sane = w.sane; apart = put_second_apart (near w.marks) (due w.below) (due c.put.new.self) s t w.apart ok.unmarked put })
 
 pub returns-clause-answer : goal.returns-clause-answer
 returns-clause-answer g c =

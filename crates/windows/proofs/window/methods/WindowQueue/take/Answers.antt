@@ -12,6 +12,7 @@ invariant_of-self g c =
     let t = c.take in
     record {
       within = within_taken (near w.marks) (near t.new.self) t.result w.within t.ensures.after;
+      sane = t.ensures.keeps;
       apart = taken_first_apart (near w.marks) (g.Q.Queue.due w.below) (near t.new.self) t.result w.apart t.ensures.after;
     }
 
@@ -19,7 +20,7 @@ pub invariant_of-self-else-marks_lead : goal.invariant_of-self-else-marks_lead
 invariant_of-self-else-marks_lead g c =
     let w = c.args.self.now in
     let t = c.take-else-marks_lead in
-    record { within = w.within; apart = taken_second_apart (near w.marks) (g.Q.Queue.due w.below) (g.Q.Queue.due t.new.self) t.result w.apart t.ensures.after }
+    record { within = w.within; sane = w.sane; apart = taken_second_apart (near w.marks) (g.Q.Queue.due w.below) (g.Q.Queue.due t.new.self) t.result w.apart t.ensures.after }
 
 pub returns-then-marks_lead-clause-answer : goal.returns-then-marks_lead-clause-answer
 returns-then-marks_lead-clause-answer g c =
