@@ -5,5 +5,6 @@ pub mod Counts
 pub mod Sought
 pub mod Firsts
 pub mod Standing
+pub mod Settled
 pub mod Worded
 pub mod Same

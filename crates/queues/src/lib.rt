@@ -4,6 +4,7 @@
 mod checks;
 mod entry;
 mod heap_queue;
+mod places;
 mod queue;
 mod row;
 

@@ -1,12 +1,11 @@
 // A row is a queue.
 ghost use Rattle.queues.specs.Dues.{Empty};
 ghost use Rattle.queues.specs.Makes.{row_due, row_within};
-ghost use Rattle.queues.specs.Rows.{IsPlace};
-ghost use Rattle.std.specs.Prelude.{◌≤◌, length};
 
 use super::Row;
 use crate::checks::check_put;
 use crate::entry::Entry;
+use crate::places::insert;
 use crate::queue::Queue;
 use arrayvec::ArrayVec;
 use bits::ServerSet;
@@ -22,20 +21,6 @@ impl Row {
             held: ServerSet::EMPTY,
         }
     }
-
-    // The place of a new entry: right of all that it is at or before.
-    fn place_of(&self, new: &Entry) -> usize
-        ensures within { result ≤ length self.now.entries.items }
-        ensures answer { IsPlace self.now.entries.items new.now result }
-    {
-        let Some(first) = self.entries.last() else {
-            return 0;
-        };
-        if new <= first {
-            return self.entries.len();
-        }
-        self.entries.partition_point(|entry| new <= entry)
-    }
 }
 
 impl Queue for Row {
@@ -45,9 +30,7 @@ impl Queue for Row {
 
     fn put(&mut self, server: u8, instant: u64) -> Result<(), Refusal> {
         check_put(server, instant, self.holds(server))?;
-        let new = Entry { instant, server };
-        let place = self.place_of(&new);
-        self.entries.insert(place, new);
+        let _place = insert(&mut self.entries, Entry { instant, server });
         self.held.insert(server);
         Ok(())
     }
