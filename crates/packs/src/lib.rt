@@ -5,10 +5,12 @@
 ghost use Rattle.packs.specs.Items.{Split};
 
 use std::alloc::AllocError;
-use std::fs;
+use std::{fs, io};
 
+mod cases;
 mod items;
 
+pub use cases::print_cases;
 pub use items::Items;
 
 // The item at the front of a pack, and the pack after it.
@@ -19,12 +21,11 @@ pub fn split_item(pack: &[u8]) -> Option<(&[u8], &[u8])>
     items.split_at_checked(u32::from_le_bytes(*size) as usize)
 }
 
-// Prints the number of each item of a pack, counted from 1, and the text of the item.
-pub fn print_cases<F: Fn(&[u8]) -> Result<String, AllocError>>(
-    rt: &HostRuntime,
-    path: &str,
-    text_of: F,
-) -> anyhow::Result<()>
+// Prints the number of each item of a pack, counted from 1, and the text of the item. Its caller chooses the type of the error.
+pub fn print_texts<E, F>(rt: &HostRuntime, path: &str, text_of: F) -> Result<(), E>
+where
+    E: From<io::Error> + From<AllocError>,
+    F: Fn(&[u8]) -> Result<String, AllocError>,
     requires { F.IsAlwaysCallable text_of }
 {
     let pack = fs::read(rt, path)?;
@@ -34,3 +35,6 @@ pub fn print_cases<F: Fn(&[u8]) -> Result<String, AllocError>>(
     }
     Ok(())
 }
+
+#[cfg(test)]
+mod tests;

@@ -1,10 +1,10 @@
 // Reads many stored plans and prints what the program prints of each.
 #![tactic(auto)]
 
-use packs::print_cases;
+use packs::print_texts;
 
 fn run(rt: &HostRuntime) -> anyhow::Result<()> {
-    print_cases(rt, "plans.pack", |plan| {
+    print_texts(rt, "plans.pack", |plan| {
         sheets::output(rt.alloc(), plan, &[])
     })
 }

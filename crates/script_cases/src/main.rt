@@ -1,13 +1,13 @@
 // Reads many stored scripts and prints what the program prints of each.
 #![tactic(auto)]
 
-use packs::print_cases;
+use packs::print_texts;
 
 // A plan without servers: its head alone.
 const NO_SERVERS: [u8; 16] = [0, 0, 0, 0, 1, 0, 0, 0, 0, 0, 0, 0, 0, 0, 0, 0];
 
 fn run(rt: &HostRuntime) -> anyhow::Result<()> {
-    print_cases(rt, "scripts.pack", |script| {
+    print_texts(rt, "scripts.pack", |script| {
         sheets::output(rt.alloc(), &NO_SERVERS, script)
     })
 }
